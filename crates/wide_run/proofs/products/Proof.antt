@@ -13,20 +13,20 @@ add-n c = search needs
 array-borrow-prefix-p : tie.Need-array-borrow-prefix-p
 array-borrow-prefix-p c = search needs
 
-slice-aggregate-product : tie.Need-slice-aggregate-product
-slice-aggregate-product c = taken _ _ (omega arith)
+slice-aggregate-write-product : tie.Need-slice-aggregate-write-product
+slice-aggregate-write-product c = taken _ _ (omega arith)
 
-product-requires : tie.Need-product-requires
-product-requires c κs = first-zeros (length (c .before .before .before .args .a .now) + length (c .before .before .before .args .b .now)) 32 (omega arith)
+write-product-requires : tie.Need-write-product-requires
+write-product-requires c κs = first-zeros (length (c .before .before .before .args .a .now) + length (c .before .before .before .args .b .now)) 32 (omega arith)
 
 array-borrow-prefix-q : tie.Need-array-borrow-prefix-q
 array-borrow-prefix-q c = search needs
 
-slice-aggregate-product-and-sum : tie.Need-slice-aggregate-product-and-sum
-slice-aggregate-product-and-sum c = taken _ _ (omega arith)
+slice-aggregate-write-product-and-sum : tie.Need-slice-aggregate-write-product-and-sum
+slice-aggregate-write-product-and-sum c = taken _ _ (omega arith)
 
-product-and-sum-requires : tie.Need-product-and-sum-requires
-product-and-sum-requires c κs = first-zeros (length (c .before .before .before .before .before .before .args .a .now) + length (c .before .before .before .before .before .before .args .b .now)) 32 (omega arith)
+write-product-and-sum-requires : tie.Need-write-product-and-sum-requires
+write-product-and-sum-requires c κs = first-zeros (length (c .before .before .before .before .before .before .args .a .now) + length (c .before .before .before .before .before .before .args .b .now)) 32 (omega arith)
 
 returns : tie.Need-returns
 returns c = search needs
@@ -37,9 +37,9 @@ products-spec =
     (tie.spec
     add-n
     array-borrow-prefix-p
-    slice-aggregate-product
-    product-requires
+    slice-aggregate-write-product
+    write-product-requires
     array-borrow-prefix-q
-    slice-aggregate-product-and-sum
-    product-and-sum-requires
+    slice-aggregate-write-product-and-sum
+    write-product-and-sum-requires
     returns)

@@ -13,11 +13,11 @@ add-n c = search needs
 array-borrow-prefix-p : tie.Need-array-borrow-prefix-p
 array-borrow-prefix-p c = search needs
 
-slice-aggregate-product-u64 : tie.Need-slice-aggregate-product-u64
-slice-aggregate-product-u64 c = taken _ _ (omega arith)
+slice-aggregate-write-product-u64 : tie.Need-slice-aggregate-write-product-u64
+slice-aggregate-write-product-u64 c = taken _ _ (omega arith)
 
-product-u64-requires : tie.Need-product-u64-requires
-product-u64-requires c κs = first-zeros (length (c .before .before .args .a .now) + 2) 18 (omega arith)
+write-product-u64-requires : tie.Need-write-product-u64-requires
+write-product-u64-requires c κs = first-zeros (length (c .before .before .args .a .now) + 2) 18 (omega arith)
 
 returns : tie.Need-returns
 returns c = search needs
@@ -25,4 +25,4 @@ returns c = search needs
 pub products-u64-spec : {M : Type 1} → statement M
 products-u64-spec =
     tie.close
-    (tie.spec add-n array-borrow-prefix-p slice-aggregate-product-u64 product-u64-requires returns)
+    (tie.spec add-n array-borrow-prefix-p slice-aggregate-write-product-u64 write-product-u64-requires returns)

@@ -15,11 +15,11 @@ add-n c = search needs
 array-borrow-prefix-s : tie.Need-array-borrow-prefix-s
 array-borrow-prefix-s c = search needs
 
-slice-aggregate-sum : tie.Need-slice-aggregate-sum
-slice-aggregate-sum c = taken _ _ (omega arith)
+slice-aggregate-write-sum : tie.Need-slice-aggregate-write-sum
+slice-aggregate-write-sum c = taken _ _ (omega arith)
 
-sum-requires : tie.Need-sum-requires
-sum-requires c κs = let z = first-zeros (c .before .longer .result + 1) 17 (omega arith) in (z .0, omega (arith, z .1), omega (arith, z .1))
+write-sum-requires : tie.Need-write-sum-requires
+write-sum-requires c κs = let z = first-zeros (c .before .longer .result + 1) 17 (omega arith) in (z .0, omega (arith, z .1), omega (arith, z .1))
 
 returns : tie.Need-returns
 returns c = search needs
@@ -27,4 +27,4 @@ returns c = search needs
 pub sums-spec : {M : Type 1} → statement M
 sums-spec =
     tie.close
-    (tie.spec longer-requires add-n array-borrow-prefix-s slice-aggregate-sum sum-requires returns)
+    (tie.spec longer-requires add-n array-borrow-prefix-s slice-aggregate-write-sum write-sum-requires returns)

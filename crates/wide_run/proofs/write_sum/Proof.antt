@@ -1,9 +1,9 @@
--- `sum` asks only for room that it has.
+-- `write_sum` asks only for room that it has.
 use Rattle.wide_run.proofs.Room.{room-sum}
 use native.Mathlib.Omega.{arith}
 use borrow.Author.Needs.{needs}
-use Rattle.wide_run.proofs.lines.sum.Statement.{statement}
-use Rattle.wide_run.proofs.lines.sum.Tie as tie
+use Rattle.wide_run.proofs.write_sum.Statement.{statement}
+use Rattle.wide_run.proofs.write_sum.Tie as tie
 
 add-to-requires : tie.Need-add-to-requires
 add-to-requires c κs = omega (arith, room-sum (c .before .before .before .before .args .s .now) (c .before .before .before .before .args .a .now) (c .before .before .before .before .args .b .now) (c .before .before .shared-slice-known .given) (c .before .shared-slice-known2 .given) (c .before .before .before .before .pre .1) (c .before .before .before .before .pre .2))
@@ -23,8 +23,8 @@ same-length c = search needs
 returns : tie.Need-returns
 returns c = search needs
 
-pub sum-spec : {M : Type 1} → statement M
-sum-spec =
+pub write-sum-spec : {M : Type 1} → statement M
+write-sum-spec =
     tie.close
     (tie.spec
     add-to-requires

@@ -1,7 +1,7 @@
--- `quotient` divides only where the quotient is below 2^64.
+-- `write_quotient` divides only where the quotient is below 2^64.
 use borrow.Author.Needs.{needs}
-use Rattle.wide_run.proofs.lines.quotient.Statement.{statement}
-use Rattle.wide_run.proofs.lines.quotient.Tie as tie
+use Rattle.wide_run.proofs.write_quotient.Statement.{statement}
+use Rattle.wide_run.proofs.write_quotient.Tie as tie
 
 has-short-quotient-requires : tie.Need-has-short-quotient-requires
 has-short-quotient-requires c κs = search needs
@@ -42,8 +42,8 @@ same-length-2 c = search needs
 returns-2 : tie.Need-returns-2
 returns-2 c = search needs
 
-pub quotient-spec : {M : Type 1} → statement M
-quotient-spec =
+pub write-quotient-spec : {M : Type 1} → statement M
+write-quotient-spec =
     tie.close
     (tie.spec
     has-short-quotient-requires

@@ -7,8 +7,8 @@ use Rattle.wide.proofs.Tests.{test-le}
 use Rattle.wide.proofs.Limbs.{weight-length}
 use native.Mathlib.Omega.{arith}
 use borrow.Author.Needs.{needs}
-use Rattle.wide_run.proofs.lines.has_room.Statement.{statement}
-use Rattle.wide_run.proofs.lines.has_room.Tie as tie
+use Rattle.wide_run.proofs.guards.has_room.Statement.{statement}
+use Rattle.wide_run.proofs.guards.has_room.Tie as tie
 
 at-most-requires : tie.Need-at-most-requires
 at-most-requires c κs = search needs

@@ -7,8 +7,8 @@ use Prim.Native.Nat.{ℕ}
 use mathlib.Core.Path.{_≡_, refl}
 use native.Mathlib.Omega.{arith}
 use borrow.Author.Needs.{needs}
-use Rattle.wide_run.proofs.lines.has_short_quotient.Statement.{statement}
-use Rattle.wide_run.proofs.lines.has_short_quotient.Tie as tie
+use Rattle.wide_run.proofs.guards.has_short_quotient.Statement.{statement}
+use Rattle.wide_run.proofs.guards.has_short_quotient.Tie as tie
 
 slice-aggregate-multiply-add : tie.Need-slice-aggregate-multiply-add
 slice-aggregate-multiply-add c = search needs

@@ -1,9 +1,9 @@
--- `product_and_sum` asks only for room that it has.
+-- `write_product_and_sum` asks only for room that it has.
 use Rattle.wide_run.proofs.Room.{room-both}
 use native.Mathlib.Omega.{arith}
 use borrow.Author.Needs.{needs}
-use Rattle.wide_run.proofs.lines.product_and_sum.Statement.{statement}
-use Rattle.wide_run.proofs.lines.product_and_sum.Tie as tie
+use Rattle.wide_run.proofs.write_product_and_sum.Statement.{statement}
+use Rattle.wide_run.proofs.write_product_and_sum.Tie as tie
 
 multiply-add-requires : tie.Need-multiply-add-requires
 multiply-add-requires c κs = omega (arith, room-both (c .before .before .before .before .args .p .now) (c .before .before .before .before .args .a .now) (c .before .before .before .before .args .b .now) (c .before .before .shared-slice-known .given) (c .before .shared-slice-known2 .given) (c .before .before .before .before .pre .1))
@@ -26,8 +26,8 @@ same-length c = search needs
 returns : tie.Need-returns
 returns c = search needs
 
-pub product-and-sum-spec : {M : Type 1} → statement M
-product-and-sum-spec =
+pub write-product-and-sum-spec : {M : Type 1} → statement M
+write-product-and-sum-spec =
     tie.close
     (tie.spec
     multiply-add-requires

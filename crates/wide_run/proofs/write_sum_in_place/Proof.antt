@@ -1,7 +1,7 @@
--- `sum_in_place` adds only where there is room.
+-- `write_sum_in_place` adds only where there is room.
 use borrow.Author.Needs.{needs}
-use Rattle.wide_run.proofs.lines.sum_in_place.Statement.{statement}
-use Rattle.wide_run.proofs.lines.sum_in_place.Tie as tie
+use Rattle.wide_run.proofs.write_sum_in_place.Statement.{statement}
+use Rattle.wide_run.proofs.write_sum_in_place.Tie as tie
 
 has-room-requires : tie.Need-has-room-requires
 has-room-requires c κs = search needs
@@ -39,8 +39,8 @@ same-length-4 c = search needs
 returns-2 : tie.Need-returns-2
 returns-2 c = search needs
 
-pub sum-in-place-spec : {M : Type 1} → statement M
-sum-in-place-spec =
+pub write-sum-in-place-spec : {M : Type 1} → statement M
+write-sum-in-place-spec =
     tie.close
     (tie.spec
     has-room-requires

@@ -1,11 +1,11 @@
--- `product` asks only for room that it has.
+-- `write_product` asks only for room that it has.
 use Rattle.wide_run.proofs.Room.{room-product, own-bits}
 use lib.ListN.{length}
 use Prim.Native.Nat.{_*_}
 use native.Mathlib.Omega.{arith}
 use borrow.Author.Needs.{needs}
-use Rattle.wide_run.proofs.lines.product.Statement.{statement}
-use Rattle.wide_run.proofs.lines.product.Tie as tie
+use Rattle.wide_run.proofs.write_product.Statement.{statement}
+use Rattle.wide_run.proofs.write_product.Tie as tie
 
 multiply-add-requires : tie.Need-multiply-add-requires
 multiply-add-requires c κs = let a = c .before .before .before .before .args .a .now in let b = c .before .before .before .before .args .b .now in room-product _ (32 * length a) (32 * length b) (c .before .before .before .before .pre .0) (own-bits a (c .before .before .shared-slice-known .given)) (own-bits b (c .before .shared-slice-known2 .given)) (omega arith)
@@ -22,8 +22,8 @@ same-length c = search needs
 returns : tie.Need-returns
 returns c = search needs
 
-pub product-spec : {M : Type 1} → statement M
-product-spec =
+pub write-product-spec : {M : Type 1} → statement M
+write-product-spec =
     tie.close
     (tie.spec
     multiply-add-requires

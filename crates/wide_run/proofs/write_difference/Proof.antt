@@ -1,8 +1,8 @@
--- `difference` takes b from a only where it is at most a.
+-- `write_difference` takes b from a only where it is at most a.
 use Rattle.wide.proofs.Tests.{test-le}
 use borrow.Author.Needs.{needs}
-use Rattle.wide_run.proofs.lines.difference.Statement.{statement}
-use Rattle.wide_run.proofs.lines.difference.Tie as tie
+use Rattle.wide_run.proofs.write_difference.Statement.{statement}
+use Rattle.wide_run.proofs.write_difference.Tie as tie
 
 at-most-requires : tie.Need-at-most-requires
 at-most-requires c κs = search needs
@@ -34,8 +34,8 @@ same-length-2 c = search needs
 returns-2 : tie.Need-returns-2
 returns-2 c = search needs
 
-pub difference-spec : {M : Type 1} → statement M
-difference-spec =
+pub write-difference-spec : {M : Type 1} → statement M
+write-difference-spec =
     tie.close
     (tie.spec
     at-most-requires

@@ -2,8 +2,8 @@
 use borrow.Author.Needs.{needs}
 use Prim.Native.Nat.{_≤_}
 use lib.ListN.{length}
-use Rattle.wide_run.proofs.lines.write_limbs.Statement.{statement}
-use Rattle.wide_run.proofs.lines.write_limbs.Tie as tie
+use Rattle.wide_run.proofs.write_limbs.Statement.{statement}
+use Rattle.wide_run.proofs.write_limbs.Tie as tie
 
 abbrev Inv-loop : tie.InvT-loop
 Inv-loop s i₀ i = i ≤ length s

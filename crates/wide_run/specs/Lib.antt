@@ -1,0 +1,2 @@
+-- What the contracts of `wide_run` speak of.
+pub mod Fields
