@@ -1,0 +1,122 @@
+-- The searches by whole limits find the faults of Table 8.
+-- Assumes nothing.
+use mathlib.Core.Path.{_≡_, refl, sym, ap, ap₂, fun-ext}
+use mathlib.Core.Bool.{Bool, true, false, cond, not, _&&_, _||_}
+use mathlib.Core.List.{List}
+use Prim.Native.Nat.{ℕ, _+_, _*_, _≤_, _<_}
+use borrow.Author.Tests.{lt-ltb, le-ltb, eq-eqb, ne-eqb}
+use native.Mathlib.Omega.{arith}
+use lib.Dec.{leb, ltb, eqb}
+use lib.IntN.{ℤ, pos, negℤ, natAbs, _-ℤ_}
+use lib.Signed.{leZ}
+use Rattle.spacing.specs.declared.verdict.Member.{Member}
+use Rattle.spacing.specs.declared.verdict.Frame.{Frame}
+use Rattle.spacing.specs.declared.verdict.Fault.{Fault}
+use Rattle.spacing.specs.Search.{partner, firstPair}
+use Rattle.spacing.specs.Spacing.{
+  along,
+  across,
+  forceIn,
+  frameOf,
+  square,
+  squaredForce,
+  place,
+  distance,
+  tooClose,
+  endTooNear,
+  Components,
+}
+use Rattle.spacing.specs.Limits.{PairLimit, EndLimit, closeBy, outside}
+use Rattle.spacing.specs.Verdict.{fault, pairFault, orElse, verdictIn, memberVerdict}
+use Rattle.spacing.proofs.Integers.{natAbs-neg}
+
+-- ---- a whole limit tests what the rule tests
+pub close-same :
+    (v : Frame) (d along : ℕ) (a b : List ℤ) → PairLimit d (square (v .force)) (squaredForce v) along →
+    closeBy along (30 * d) a b ≡ tooClose v d a b
+close-same v d along a b l =
+    fun-ext λ i. fun-ext λ j. ap (λ t. not (t || leb (30 * d) (distance b i j))) (sym (l .decides (distance a i j)))
+
+pub end-same :
+    (v : Frame) (d low high : ℕ) (a : List ℤ) →
+    EndLimit (leZ (pos 1) (negℤ (v .force))) d (square (v .sideways)) (squaredForce v) low →
+    EndLimit (leZ (pos 1) (v .force)) d (square (v .sideways)) (squaredForce v) high →
+    outside (v .low) (v .high) low high a ≡ endTooNear v d a
+end-same v d low high a l h =
+    fun-ext λ i. ap₂ (λ s t. not (s && t)) (sym (l .decides (place a i -ℤ v .low))) (sym (h .decides (v .high -ℤ place a i)))
+
+-- ---- what the search answers is the fault
+picked : (i n : ℕ) (f g : Fault) → i < n → f ≡ cond (ltb i n) f g
+picked i n f g h = rw (lt-ltb i n h)
+
+passed : (i n : ℕ) (f g : Fault) → n ≤ i → g ≡ cond (ltb i n) f g
+passed i n f g h = rw (le-ltb i n h)
+
+pub pair-found :
+    (member : ℕ) (v : Frame) (d : ℕ) (a b : List ℤ) (n i j : ℕ) (test : ℕ → ℕ → Bool) → test ≡ tooClose v d a b →
+    i ≡ firstPair test n → i < n → j ≡ partner test n i →
+    fault 10 member (i + 1) (j + 1) ≡ pairFault member v d a b n
+unfolding pairFault
+pair-found member v d a b n i j test s e h p =
+    rw (← s, ← e, ← p) (picked i n _ _ h)
+
+pub no-pair :
+    (member : ℕ) (v : Frame) (d : ℕ) (a b : List ℤ) (n i : ℕ) (test : ℕ → ℕ → Bool) → test ≡ tooClose v d a b →
+    i ≡ firstPair test n → n ≤ i → fault 0 0 0 0 ≡ pairFault member v d a b n
+unfolding pairFault
+no-pair member v d a b n i test s e h = rw (← s, ← e) (passed i n _ _ h)
+
+-- ---- one fault after another
+pub the-first : (r f g : Fault) → r ≡ f → (r .number ≡ 0 → ⊥) → r ≡ orElse f g
+the-first r f g e h = rw (← e, ne-eqb (r .number) 0 h)
+
+pub the-second : (r f s g : Fault) → r ≡ f → r .number ≡ 0 → s ≡ g → s ≡ orElse f g
+the-second r f s g e h p = rw (← e, eq-eqb (r .number) 0 h) p
+
+-- ---- a member's own directions
+force-size : (member : ℕ) (z : ℤ) → natAbs (forceIn member z) ≡ natAbs z
+force-size member z = go (eqb member 1)
+  where
+    go : (b : Bool) → natAbs (cond b (negℤ z) z) ≡ natAbs z
+    go true = natAbs-neg z
+    go false = refl
+
+turned-components : (d : ℕ) (b : Bool) (fx fy : ℤ) → Components d fx fy → Components d (cond b fx fy) (cond b fy fx)
+turned-components d true fx fy h = h
+turned-components d false fx fy h = record {
+  thick = h .thick;
+  x-small = h .y-small;
+  y-small = h .x-small;
+  some = omega (arith, h .some);
+}
+
+-- the force in a member is within the limits of the record's force
+pub frame-components :
+    (member d : ℕ) (m : Member) (fx fy : ℤ) (v : Frame) → v ≡ frameOf member m fx fy → Components d fx fy →
+    Components d (v .force) (v .sideways)
+frame-components member d m fx fy v e h =
+    let k = turned-components d (eqb (m .grain) 0) fx fy h in
+    rw e (record {
+      thick = k .thick;
+      x-small = rw (force-size member (along (m .grain) fx fy)) (k .x-small);
+      y-small = rw (force-size member (across (m .grain) fx fy)) (k .y-small);
+      some = rw (force-size member (along (m .grain) fx fy), force-size member (across (m .grain) fx fy)) (k .some);
+    })
+
+pub grain-along-x :
+    (member : ℕ) (m : Member) (d : ℕ) (fx fy : ℤ) (x y : List ℤ) (n : ℕ) → m .grain ≡ 0 →
+    verdictIn member (frameOf member m fx fy) d x y n ≡ memberVerdict member m d fx fy x y n
+unfolding memberVerdict
+grain-along-x member m d fx fy x y n h =
+    ap₂ (λ a b. verdictIn member (frameOf member m fx fy) d a b n)
+    (sym (ap (λ t. cond t x y) (eq-eqb (m .grain) 0 h)))
+    (sym (ap (λ t. cond t y x) (eq-eqb (m .grain) 0 h)))
+
+pub grain-along-y :
+    (member : ℕ) (m : Member) (d : ℕ) (fx fy : ℤ) (x y : List ℤ) (n : ℕ) → (m .grain ≡ 0 → ⊥) →
+    verdictIn member (frameOf member m fx fy) d y x n ≡ memberVerdict member m d fx fy x y n
+unfolding memberVerdict
+grain-along-y member m d fx fy x y n h =
+    ap₂ (λ a b. verdictIn member (frameOf member m fx fy) d a b n)
+    (sym (ap (λ t. cond t x y) (ne-eqb (m .grain) 0 h)))
+    (sym (ap (λ t. cond t y x) (ne-eqb (m .grain) 0 h)))

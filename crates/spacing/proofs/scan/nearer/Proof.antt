@@ -1,0 +1,32 @@
+-- `nearer` meets its contract.
+-- Assumes nothing.
+use lib.IntN.{natAbs, _-ℤ_}
+use mir.Facts.{toZ-ofZ}
+use Rattle.spacing.proofs.Limits.{nearer-along, far-along}
+use Rattle.spacing.proofs.scan.nearer.Statement.{statement}
+use Rattle.spacing.proofs.scan.nearer.Tie as tie
+
+apart-requires : tie.Need-apart-requires
+apart-requires c κs = tt
+
+apart-requires-2 : tie.Need-apart-requires-2
+apart-requires-2 c κs = tt
+
+returns : tie.Need-returns
+returns c =
+    let f = c .before .before .before .fits in
+    let e = simp (toZ-ofZ (f .p), toZ-ofZ (f .q)) at (c .before .before .apart .ensures) in
+    let g = simp (toZ-ofZ (f .s), toZ-ofZ (f .t)) at (c .apart2 .ensures) in
+    let h = rw e at (c .before .if1 .taken) in
+    let v = c .before .before .before .args in
+    rw g (nearer-along (v .along) (v .across) (natAbs (v .p -ℤ v .q)) (natAbs (v .s -ℤ v .t)) h)
+
+returns-2 : tie.Need-returns-2
+returns-2 c =
+    let f = c .before .before .fits in
+    let e = simp (toZ-ofZ (f .p), toZ-ofZ (f .q)) at (c .before .apart .ensures) in
+    let v = c .before .before .args in
+    far-along (v .along) (v .across) (natAbs (v .p -ℤ v .q)) (natAbs (v .s -ℤ v .t)) (rw e at (c .if1 .left))
+
+pub nearer-spec : {M : Type 1} → statement M
+nearer-spec = tie.close (tie.spec apart-requires apart-requires-2 returns returns-2)

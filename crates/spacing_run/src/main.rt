@@ -1,0 +1,177 @@
+// Runs the spacing verdict and the shares on the joints of standard input, one line a joint.
+// A number is a sign and seven digits with one space or line end after it: nine bytes. A joint is d fx fy, then grain x0 y0 x1
+// y1 of member 1 and of member 2, then the number of dowels, and x y of each.
+ghost use Prim.Native.Nat.{_+_, _*_, _≤_};
+ghost use lib.ListN.{length};
+use libc::STDIN_FILENO;
+use libc::STDOUT_FILENO;
+use spacing::share;
+use spacing::signed;
+use spacing::verdict;
+use spacing::verdict::Fault;
+use spacing::verdict::Member;
+
+const FIELD: usize = 9;
+
+const BEFORE_DOWELS: usize = 14;
+
+fn digit(b: u8) -> u32
+    ensures { λ r. ⌜ r ≤ 9 ⌝ }
+{
+    if b < 48 {
+        return 0;
+    }
+    if 57 < b {
+        return 0;
+    }
+    (b - 48) as u32
+}
+
+// Seven digits from `at`; 0 past the end.
+fn digits(s: &[u8], at: usize) -> u32
+    requires { ⌜ at ≤ 70000 ⌝ }
+    ensures { λ r. ⌜ r ≤ 9999999 ⌝ }
+{
+    if s.len() < at + 7 {
+        return 0;
+    }
+    let high = digit(s[at]) * 1000000 + digit(s[at + 1]) * 100000 + digit(s[at + 2]) * 10000;
+    let low = digit(s[at + 3]) * 1000
+        + digit(s[at + 4]) * 100
+        + digit(s[at + 5]) * 10
+        + digit(s[at + 6]);
+    high + low
+}
+
+// The number of field k; 0 past the end.
+fn number(s: &[u8], k: usize) -> i32
+    requires { ⌜ k ≤ 7300 ⌝ }
+{
+    let at = k * FIELD;
+    if s.len() <= at {
+        return 0;
+    }
+    let n = digits(s, at + 1);
+    if s[at] == b'-' {
+        return 0 - (n as i32);
+    }
+    n as i32
+}
+
+// The x or y of each dowel, from field k on.
+fn column(s: &[u8], k: usize, count: usize) -> [i32; 64]
+    requires { ⌜ (k ≤ 7150) × (count ≤ 64) ⌝ }
+{
+    let mut out = [0i32; 64];
+    let mut i = 0;
+    while i < count {
+        out[i] = number(s, k + 2 * i);
+        i += 1;
+    }
+    out
+}
+
+fn member(s: &[u8], k: usize) -> Member
+    requires { ⌜ k ≤ 7150 ⌝ }
+{
+    Member {
+        grain: if number(s, k) == 0 { 0 } else { 1 },
+        x0: number(s, k + 1),
+        y0: number(s, k + 2),
+        x1: number(s, k + 3),
+        y1: number(s, k + 4),
+    }
+}
+
+fn print(n: u64) {
+    io::print_decimal(STDOUT_FILENO, n);
+    io::write_all(STDOUT_FILENO, b" ");
+}
+
+fn print_fault(f: Fault) {
+    print(f.number as u64);
+    print(f.member as u64);
+    print(f.first as u64);
+    print(f.second as u64);
+}
+
+fn print_shares(side: Member, middle: Member, d: u64, x: [i32; 64], y: [i32; 64], count: usize)
+    requires { ⌜ (6 ≤ d) × (d ≤ 30) × (1 ≤ count) × (count ≤ 64) ⌝ }
+{
+    let shares = share::both_shares(side, middle, d, x, y, count);
+    print(shares.side);
+    print(shares.middle);
+}
+
+// A joint from field k on, with its forces and sizes within the limits of a record.
+fn joint(s: &[u8], k: usize, count: usize)
+    requires { ⌜ (k ≤ 7100) × (1 ≤ count) × (count ≤ 64) ⌝ }
+{
+    let d = signed::size(number(s, k));
+    let fx = number(s, k + 1);
+    let fy = number(s, k + 2);
+    let side = member(s, k + 3);
+    let middle = member(s, k + 8);
+    let x = column(s, k + 14, count);
+    let y = column(s, k + 15, count);
+    verdicts(side, middle, d, fx, fy, x, y, count);
+}
+
+fn verdicts(
+    side: Member,
+    middle: Member,
+    d: u64,
+    fx: i32,
+    fy: i32,
+    x: [i32; 64],
+    y: [i32; 64],
+    count: usize,
+)
+    requires { ⌜ (1 ≤ count) × (count ≤ 64) ⌝ }
+{
+    let wide = signed::size(fx);
+    let high = signed::size(fy);
+    if d < 6 {
+        return;
+    }
+    if 30 < d {
+        return;
+    }
+    if 1000000 < wide {
+        return;
+    }
+    if 1000000 < high {
+        return;
+    }
+    if wide + high == 0 {
+        return;
+    }
+    print_fault(verdict::spacing_verdict(side, middle, d, fx, fy, x, y, count));
+    print_shares(side, middle, d, x, y, count);
+    io::write_all(STDOUT_FILENO, b"\n");
+}
+
+// Each joint in turn, until the input ends.
+fn joints(s: &[u8]) {
+    let mut k = 0;
+    while k * FIELD < s.len() {
+        if 7100 < k {
+            return;
+        }
+        let count = signed::size(number(s, k + 13)) as usize;
+        if count < 1 {
+            return;
+        }
+        if 64 < count {
+            return;
+        }
+        joint(s, k, count);
+        k += BEFORE_DOWELS + 2 * count;
+    }
+}
+
+fn main() {
+    let mut text = io::large_buffer();
+    let n = io::read_full(STDIN_FILENO, &mut text);
+    joints(&text[..n]);
+}

@@ -1,0 +1,58 @@
+-- What the inner routines ask and hand on: numbers in limbs, with as many bits as their arrays hold.
+-- Assumes nothing.
+use Prim.Native.Nat.{ℕ, _+_, _*_, _^_, _≤_, _<_}
+use mathlib.Core.Path.{_≡_}
+use Rattle.wide.specs.Natural.{value}
+use Rattle.strength.specs.declared.plane.Member.{Member}
+use Rattle.strength.specs.declared.terms.Bearing.{Bearing}
+use Rattle.strength.specs.declared.terms.Joined.{Joined}
+use Rattle.strength.specs.Working.{bearingNum, bearingDen, crossed}
+
+-- the bearing of a member
+pub record BearingOf (m : Member) (b : Bearing) : Type 0 where
+  pub num : value (b .num) ≡ bearingNum m
+  pub den : value (b .den) ≡ bearingDen m
+
+-- what is made of both bearings
+pub record JoinedOf (side other : Member) (j : Joined) : Type 0 where
+  pub num1 : value (j .num1) ≡ bearingNum side
+  pub den1 : value (j .den1) ≡ bearingDen side
+  pub num2 : value (j .num2) ≡ bearingNum other
+  pub den2 : value (j .den2) ≡ bearingDen other
+  pub cross1 : value (j .cross1) ≡ crossed side other
+  pub cross2 : value (j .cross2) ≡ crossed other side
+  pub whole : value (j .whole) ≡ crossed side other + crossed other side
+  pub nums : value (j .nums) ≡ bearingNum side * bearingNum other
+
+-- two numbers of at most k bits
+pub record Bits (k a b : ℕ) : Type 0 where
+  pub first : a < 2 ^ k
+  pub second : b < 2 ^ k
+
+-- a part of a whole
+pub record Part (part whole : ℕ) : Type 0 where
+  pub below : part ≤ whole
+  pub positive : 0 < whole
+  pub bits : whole < 2 ^ 147
+
+-- what the first term is made of: the dowel's factor k, the yield moment m, the product of the numerators, the sum
+pub record FirstWithin (k m nums whole : ℕ) : Type 0 where
+  pub factor : k ≤ 231240
+  pub moment : m < 2147483648
+  pub bits : nums < 2 ^ 146
+  pub whole-bits : whole < 2 ^ 147
+  pub positive : 0 < whole
+  pub bound : 9 * nums ≤ 10 * whole
+
+-- a force in units of num/den that comes to at most 2^30 thousandths of a newton
+pub record ForceWithin (force num den : ℕ) : Type 0 where
+  pub factor : force ≤ 924960000
+  pub num-bits : num < 2 ^ 73
+  pub den-bits : den < 2 ^ 73
+  pub positive : 0 < den
+  pub bound : force * num ≤ 1073741824 * den
+
+-- a diameter in mm, and 600 fu d^2
+pub record HintWithin (d unit : ℕ) : Type 0 where
+  pub diameter-high : d ≤ 30
+  pub unit-high : unit ≤ 432000000

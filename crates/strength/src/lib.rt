@@ -1,0 +1,7 @@
+// Bearing and roots: the strength of a shear plane (01, 'Strength of a shear plane').
+pub mod capacity;
+pub mod moment;
+pub mod plane;
+pub mod roots;
+pub mod tables;
+mod terms;
