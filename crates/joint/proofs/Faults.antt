@@ -1,0 +1,271 @@
+-- Laws of refusals 10 to 12: what values that passed 1 to 9 give to the spacing rules, and where a fault stands in the order.
+use Prim.Native.Nat.{ℕ, zero, suc, _+_, _≤_, _<_, suc-le-suc}
+use native.Mathlib.Omega.{arith}
+use mathlib.Core.Path.{_≡_, refl, sym, ap, _∙_}
+use mathlib.Core.List.{List, [], _∷_, _++_, map}
+use mathlib.Core.Bool.{Bool, true, false, cond, not, _&&_}
+use borrow.Author.Tests.{leb-true, eqb-true, eqb-false, ltb-true, not-true, not-false, eq-eqb, ne-eqb}
+use lib.Dec.{leb, ltb, eqb}
+use lib.IntN.{ℤ, pos, negsuc, natAbs}
+use lib.Signed.{leZ}
+use lib.ListN.{length}
+use Rattle.spacing.specs.declared.verdict.Frame.{Frame}
+use Rattle.spacing.specs.declared.verdict.Fault.{Fault}
+use Rattle.spacing.specs.Spacing.{Given, tooClose, endTooNear, edgeTooNear}
+use Rattle.spacing.specs.Search.{firstFrom as searched, partner, firstPair}
+use Rattle.spacing.specs.Verdict.{fault, orElse, pairFault, endFault, edgeFault, oneDowel, verdictIn, memberVerdict, spacingVerdict}
+use Rattle.joint.specs.Layout.{valuesOf}
+use Rattle.joint.specs.Order.{tests, position}
+use Rattle.joint.specs.Refusal.{
+  between,
+  betweenZ,
+  force,
+  dowelWithin,
+  positionsWithin,
+  loadsWithin,
+  membersWithin,
+  fieldsWithin,
+  coordinates,
+  noForce,
+  refusal7,
+  refusal9,
+  fault10,
+  fault11,
+  fault12,
+  isFault,
+  refusal10,
+  refusal11,
+  refusal12,
+  scriptTests,
+  designerTests,
+  drillTests,
+  firstFrom,
+  refusalNumber,
+  drillFault,
+  refusalOf,
+  frame,
+  alongs,
+  acrosses,
+  zeroValues,
+  outcome,
+  outcomeOf,
+}
+use Rattle.joint.specs.declared.Dowel.{Dowel}
+use Rattle.joint.specs.declared.Loads.{Loads}
+use Rattle.joint.specs.declared.Positions.{Positions}
+use Rattle.joint.specs.declared.Values.{Values}
+use Rattle.joint.specs.declared.Outcome.{Outcome}
+use Rattle.joint.proofs.Stages.{first-zero, first-kept}
+use Rattle.joint.proofs.Tests.{first-of, second-of}
+
+-- ---- what 7 and 9 leave
+at-most : (low high n : ℕ) → between low high n ≡ true → n ≤ high
+at-most low high n h = leb-true n high (second-of (leb low n) (leb n high) h)
+
+small-force : (z : ℤ) → force z ≡ true → natAbs z ≤ 1000000
+unfolding force
+small-force (pos n) h = leb-true n 1000000 h
+small-force (negsuc n) h = suc-le-suc (leb-true n 999999 (first-of (leb n 999999) true h))
+
+some-force : (a b : ℕ) → (eqb a 0 && eqb b 0) ≡ false → 0 < a + b
+some-force zero zero h = let z : _≡_ {A = ℕ} 0 1 = cc in absurd (omega arith)
+some-force zero (suc b) h = omega arith
+some-force (suc a) b h = omega arith
+
+thick : (w : Dowel) → dowelWithin w ≡ true → w .diameter ≤ 30
+unfolding dowelWithin
+thick w h = at-most 6 30 (w .diameter) (first-of (between 6 30 (w .diameter)) _ h)
+
+most : (p : Positions) → positionsWithin p ≡ true → p .n ≤ 64
+unfolding positionsWithin
+most p h =
+    at-most 1 64 (p .n)
+    (first-of (between 1 64 (p .n)) _ (first-of (between 1 64 (p .n) && coordinates (p .x) (p .n)) _ h))
+
+small-x : (l : Loads) → loadsWithin l ≡ true → natAbs (l .fx) ≤ 1000000
+unfolding loadsWithin
+small-x l h =
+    let a = between 1 3 (l .«service_class») in
+    let b = between 1 5 (l .duration) in
+    small-force (l .fx) (second-of (a && b) _ (first-of (a && b && force (l .fx)) _ h))
+
+small-y : (l : Loads) → loadsWithin l ≡ true → natAbs (l .fy) ≤ 1000000
+unfolding loadsWithin
+small-y l h =
+    let a = between 1 3 (l .«service_class») in
+    let b = between 1 5 (l .duration) in
+    small-force (l .fy) (second-of (a && b && force (l .fx)) _ h)
+
+some : (l : Loads) → noForce l ≡ false → 0 < natAbs (l .fx) + natAbs (l .fy)
+unfolding noForce
+some l h = some-force (natAbs (l .fx)) (natAbs (l .fy)) h
+
+pub given : (v : Values) → not (fieldsWithin v) ≡ false → noForce (v .loads) ≡ false → Given (v .dowel .diameter) (v .loads .fx) (v .loads .fy) (v .positions .n)
+unfolding fieldsWithin
+given v h g =
+    let m = membersWithin (v .members) in
+    let w = dowelWithin (v .dowel) in
+    let p = positionsWithin (v .positions) in
+    let all = not-false _ h in
+    let l : loadsWithin (v .loads) ≡ true = second-of (m && w && p) _ all in
+    record {
+      force =
+          record {
+            thick = thick (v .dowel) (second-of m _ (first-of (m && w) _ (first-of (m && w && p) _ all)));
+            x-small = small-x (v .loads) l;
+            y-small = small-y (v .loads) l;
+            some = some (v .loads) g;
+          };
+      most = most (v .positions) (second-of (m && w) _ (first-of (m && w && p) _ all));
+    }
+
+-- ---- faults in a row
+chain : List Fault → Fault
+chain [] = fault 0 0 0 0
+chain (f ∷ fs) = orElse f (chain fs)
+
+-- each fault that is one stands at its place in the order
+Placed : ℕ → List Fault → Type 0
+Placed k [] = Unit
+Placed k (f ∷ fs) = (isFault f ≡ true → position f ≡ k) × Placed (suc k) fs
+
+chain-position : (k : ℕ) (fs : List Fault) → Placed (suc k) fs → position (chain fs) ≡ firstFrom (suc k) (map isFault fs)
+unfolding chain Placed firstFrom
+chain-position k [] p = refl
+chain-position k (f ∷ fs) p = of (eqb (f .number) 0) refl (chain-position (suc k) fs (p .1)) (p .0)
+  where
+    of : (b : Bool) → eqb (f .number) 0 ≡ b → position (chain fs) ≡ firstFrom (suc (suc k)) (map isFault fs) → (isFault f ≡ true → position f ≡ suc k) → position (chain (f ∷ fs)) ≡ firstFrom (suc k) (map isFault (f ∷ fs))
+    of true e ih q = simp e ih
+    of false e ih q = simp e (q (simp e))
+
+-- a fault whose number is 0 has no place
+Clean : Fault → Type 0
+Clean f = f .number ≡ 0 → f ≡ fault 0 0 0 0
+
+or-assoc : (f g h : Fault) → orElse (orElse f g) h ≡ orElse f (orElse g h)
+or-assoc f g h = of (eqb (f .number) 0) refl
+  where
+    of : (b : Bool) → eqb (f .number) 0 ≡ b → orElse (orElse f g) h ≡ orElse f (orElse g h)
+    of true e = simp e
+    of false e = simp e
+
+or-clean : (f g : Fault) → Clean g → Clean (orElse f g)
+unfolding Clean
+or-clean f g q = of (eqb (f .number) 0) refl
+  where
+    of : (b : Bool) → eqb (f .number) 0 ≡ b → Clean (orElse f g)
+    of true e = simp e q
+    of false e = simp e (λ z. absurd (eqb-false _ _ e z))
+
+last-clean : (f : Fault) → Clean f → orElse f (fault 0 0 0 0) ≡ f
+unfolding Clean
+last-clean f q = of (eqb (f .number) 0) refl
+  where
+    of : (b : Bool) → eqb (f .number) 0 ≡ b → orElse f (fault 0 0 0 0) ≡ f
+    of true e = simp e (sym (q (eqb-true _ _ e)))
+    of false e = simp e
+
+chain-clean : (fs : List Fault) → Clean (chain fs)
+unfolding chain Clean
+chain-clean [] h = refl
+chain-clean (f ∷ fs) h = or-clean f (chain fs) (chain-clean fs) h
+
+six : (a b c d e f : Fault) → Clean f → orElse (orElse a (orElse b c)) (orElse d (orElse e f)) ≡ chain (a ∷ b ∷ c ∷ d ∷ e ∷ f ∷ [])
+unfolding chain
+six a b c d e f q =
+    or-assoc a (orElse b c) (orElse d (orElse e f))
+    ∙ ap (λ (z : Fault). orElse a z) (or-assoc b c (orElse d (orElse e f)))
+    ∙ ap (λ (z : Fault). orElse a (orElse b (orElse c (orElse d (orElse e z))))) (sym (last-clean f q))
+
+-- ---- the faults of a member: each is a fault of its number and member, or none
+one-clean : (t : Bool) (k m i j : ℕ) → Clean (cond t (fault (suc k) m i j) (fault 0 0 0 0))
+unfolding Clean
+one-clean true k m i j h = absurd (omega arith)
+one-clean false k m i j h = refl
+
+one-placed : (t : Bool) (k m i j p : ℕ) → cond (eqb m 2) (k + 3) k ≡ p → isFault (cond t (fault k m i j) (fault 0 0 0 0)) ≡ true → position (cond t (fault k m i j) (fault 0 0 0 0)) ≡ p
+one-placed true k m i j p e h = e
+one-placed false k m i j p e h = cc
+
+edge-clean : (k : ℕ) (v : Values) → Clean (fault12 k v)
+unfolding fault12 edgeFault Clean
+edge-clean k v =
+    let i = searched (edgeTooNear (frame k v) (v .dowel .diameter) (acrosses k v)) 0 (v .positions .n) in
+    one-clean (ltb i (v .positions .n)) 11 k (i + 1) 0
+
+placed10 : (k p : ℕ) (v : Values) → cond (eqb k 2) 13 10 ≡ p → isFault (fault10 k v) ≡ true → position (fault10 k v) ≡ p
+unfolding fault10 pairFault
+placed10 k p v e =
+    let close = tooClose (frame k v) (v .dowel .diameter) (alongs k v) (acrosses k v) in
+    let i = firstPair close (v .positions .n) in
+    one-placed (ltb i (v .positions .n)) 10 k (i + 1) (partner close (v .positions .n) i + 1) p e
+
+placed11 : (k p : ℕ) (v : Values) → cond (eqb k 2) 14 11 ≡ p → isFault (fault11 k v) ≡ true → position (fault11 k v) ≡ p
+unfolding fault11 endFault
+placed11 k p v e =
+    let i = searched (endTooNear (frame k v) (v .dowel .diameter) (alongs k v)) 0 (v .positions .n) in
+    one-placed (ltb i (v .positions .n)) 11 k (i + 1) 0 p e
+
+placed12 : (k p : ℕ) (v : Values) → cond (eqb k 2) 15 12 ≡ p → isFault (fault12 k v) ≡ true → position (fault12 k v) ≡ p
+unfolding fault12 edgeFault
+placed12 k p v e =
+    let i = searched (edgeTooNear (frame k v) (v .dowel .diameter) (acrosses k v)) 0 (v .positions .n) in
+    one-placed (ltb i (v .positions .n)) 12 k (i + 1) 0 p e
+
+-- ---- the drill plan
+drill-faults : Values → List Fault
+drill-faults v = fault10 1 v ∷ fault11 1 v ∷ fault12 1 v ∷ fault10 2 v ∷ fault11 2 v ∷ fault12 2 v ∷ []
+
+drill-chain : (v : Values) → drillFault v ≡ chain (drill-faults v)
+unfolding drillFault spacingVerdict memberVerdict verdictIn fault10 fault11 fault12 drill-faults
+drill-chain v = six (fault10 1 v) (fault11 1 v) (fault12 1 v) (fault10 2 v) (fault11 2 v) (fault12 2 v) (edge-clean 2 v)
+
+drill-placed : (v : Values) → Placed 10 (drill-faults v)
+unfolding drill-faults Placed
+drill-placed v = (
+  placed10 1 10 v refl,
+  (
+    placed11 1 11 v refl,
+    (
+      placed12 1 12 v refl,
+      (placed10 2 13 v refl, (placed11 2 14 v refl, (placed12 2 15 v refl, tt))),
+    ),
+  ),
+)
+
+drill-position : (s : List ℕ) → position (drillFault (valuesOf s)) ≡ firstFrom 10 (drillTests s)
+unfolding drill-faults
+drill-position s =
+    ap position (drill-chain (valuesOf s)) ∙ chain-position 9 (drill-faults (valuesOf s)) (drill-placed (valuesOf s))
+
+drill-none : (v : Values) → drillFault v .number ≡ 0 → drillFault v ≡ fault 0 0 0 0
+unfolding Clean
+drill-none v h = drill-chain v ∙ chain-clean (drill-faults v) (rw drill-chain at h)
+
+-- ---- the whole order
+pub position-first : (s : List ℕ) → position (refusalOf s) ≡ firstFrom 1 (tests s)
+unfolding refusalOf refusalNumber
+position-first s = of (eqb (refusalNumber s) 0) refl
+  where
+    of : (b : Bool) → eqb (refusalNumber s) 0 ≡ b → position (refusalOf s) ≡ firstFrom 1 (tests s)
+    of true e =
+        simp e
+        (drill-position s
+        ∙ sym
+        (first-zero 0 10 (scriptTests s ++ designerTests s) (drillTests s) (eqb-true _ _ e) refl))
+    of false e =
+        simp e
+        (sym (first-kept 0 (scriptTests s ++ designerTests s) (drillTests s) (eqb-false _ _ e)))
+
+-- ---- the outcome
+pub outcome-numbered : (s : List ℕ) → (refusalNumber s ≡ 0 → ⊥) → outcomeOf s ≡ record { number = refusalNumber s; member = 0; first = 0; second = 0; values = zeroValues }
+unfolding outcomeOf outcome refusalOf
+outcome-numbered s h = simp (ne-eqb (refusalNumber s) 0 h)
+
+pub outcome-fault : (s : List ℕ) (f : Fault) → f ≡ drillFault (valuesOf s) → refusalNumber s ≡ 0 → (f .number ≡ 0 → ⊥) → outcomeOf s ≡ record { number = f .number; member = f .member; first = f .first; second = f .second; values = zeroValues }
+unfolding outcomeOf outcome refusalOf
+outcome-fault s f e h g = simp (h, ← e, ne-eqb (f .number) 0 g)
+
+pub outcome-accepted : (s : List ℕ) (f : Fault) → f ≡ drillFault (valuesOf s) → refusalNumber s ≡ 0 → f .number ≡ 0 → outcomeOf s ≡ record { number = 0; member = 0; first = 0; second = 0; values = valuesOf s }
+unfolding outcomeOf outcome refusalOf
+outcome-accepted s f e h g = simp (h, drill-none (valuesOf s) (ap (λ (z : Fault). z .number) (sym e) ∙ g))

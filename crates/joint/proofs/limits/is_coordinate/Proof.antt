@@ -1,0 +1,21 @@
+-- `joint::limits::is_coordinate` meets its contract.
+-- Assumes nothing.
+use borrow.Author.Needs.{needs}
+use mathlib.Core.Path.{_≡_}
+use mir.Syntax.{w32}
+use mir.Val.{ofZ, toZ}
+use Rattle.joint.specs.Refusal.{coordinate}
+use Rattle.joint.proofs.limits.is_coordinate.Statement.{statement}
+use Rattle.joint.proofs.limits.is_coordinate.Tie as tie
+
+is-within-requires : tie.Need-is-within-requires
+is-within-requires c κs = search needs
+
+returns : tie.Need-returns
+unfolding coordinate
+returns c =
+    let b : toZ w32 (ofZ w32 (c .before .args .z)) ≡ c .before .args .z = search needs in
+    simp b at (c .is-within .ensures)
+
+pub is-coordinate-spec : {M : Type 1} → statement M
+is-coordinate-spec = tie.close (tie.spec is-within-requires returns)

@@ -1,0 +1,4 @@
+pub mod Layout
+pub mod Refusal
+pub mod Order
+pub mod Stage
