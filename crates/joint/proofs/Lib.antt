@@ -4,3 +4,12 @@ pub mod Order
 pub mod Signed
 pub mod Stages
 pub mod Tests
+pub mod Accepted
+pub mod UseLaws
+pub mod UseSizes
+pub mod Uses
+pub mod UseBrackets
+pub mod EnoughLaws
+pub mod Claims
+pub mod Planes
+pub mod Stars

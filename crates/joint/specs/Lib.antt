@@ -2,3 +2,8 @@ pub mod Layout
 pub mod Refusal
 pub mod Order
 pub mod Stage
+pub mod Use
+pub mod Claim
+pub mod Starred
+pub mod Export
+pub mod Workings

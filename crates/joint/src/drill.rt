@@ -7,7 +7,7 @@ ghost use Rattle.spacing.specs.Spacing.{Given};
 ghost use Rattle.joint.specs.Refusal.{spaced, drillFault};
 
 // A member as the spacing rules take it.
-fn spaced(m: Member) -> verdict::Member
+pub(crate) fn spaced(m: Member) -> verdict::Member
     ensures { λ r. ⌜ r ≡ spaced m ⌝ }
 {
     let outline = m.outline;

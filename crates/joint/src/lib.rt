@@ -2,12 +2,21 @@
 ghost use mathlib.Core.Path.{_≡_};
 ghost use Rattle.joint.specs.Refusal.{readingOf, outcomeOf, zeroValues};
 ghost use Rattle.joint.specs.Stage.{stageNumber};
+ghost use Rattle.joint.specs.Claim.{Judged, InputJudged};
+ghost use Rattle.joint.specs.Workings.{reportOf, inputReport};
 
+pub mod demand;
 mod drill;
+pub mod exports;
 mod fields;
+mod figures;
 mod layout;
 mod limits;
 mod parts;
+pub mod report;
+
+use crate::report::Report;
+use crate::report::Verdict;
 
 // The most dowels that a record may have.
 pub const MOST_DOWELS: usize = 64;
@@ -191,4 +200,50 @@ pub fn refusal(bytes: &[u8]) -> Outcome
         second: 0,
         values,
     }
+}
+
+// Judges a record of any length: its refusal, or the verdict with the figures.
+pub fn judge(bytes: &[u8]) -> Report
+    ensures { λ r. ⌜ Judged (now (bytes .entry)) r ⌝ }
+    ensures { λ r. ⌜ r ≡ reportOf (now (bytes .entry)) ⌝ }
+{
+    let outcome = refusal(bytes);
+    if outcome.number != 0 {
+        return Report {
+            verdict: Verdict::Refused,
+            number: outcome.number,
+            member: outcome.member,
+            first: outcome.first,
+            second: outcome.second,
+            usage: 0,
+            capacity: 0,
+            share: 0,
+        };
+    }
+    let values = outcome.values;
+    figures::answer(values)
+}
+
+// The program's rule: the first `count` bytes of a buffer are judged, but where more came than the program reads, that is refusal 4
+// before any other test.
+pub fn judge_input(buffer: &[u8], count: usize, more: bool) -> Report
+    ensures { λ r. ⌜ InputJudged (now (buffer .entry)) count more r ⌝ }
+    ensures { λ r. ⌜ r ≡ inputReport (now (buffer .entry)) count more ⌝ }
+{
+    if more {
+        return Report {
+            verdict: Verdict::Refused,
+            number: 4,
+            member: 0,
+            first: 0,
+            second: 0,
+            usage: 0,
+            capacity: 0,
+            share: 0,
+        };
+    }
+    if count < buffer.len() {
+        return judge(&buffer[..count]);
+    }
+    judge(buffer)
 }

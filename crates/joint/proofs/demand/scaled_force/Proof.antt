@@ -1,0 +1,33 @@
+-- `demand::scaled_force` meets its contract: the whole root is unique.
+use native.Mathlib.Omega.{arith}
+use borrow.Author.Needs.{needs}
+use mathlib.Core.Path.{ap}
+use Prim.Native.Nat.{ℕ, _+_, _*_, _^_, _<_}
+use lib.Dec.{lit<}
+use native.Mathlib.Nat.{lt-of-le-of-lt}
+use Rattle.strength.proofs.Greatest.{square-root-is}
+use Rattle.joint.specs.Workings.{forceOf}
+use Rattle.joint.proofs.UseSizes.{root-small}
+use Rattle.joint.proofs.demand.scaled_force.Statement.{statement}
+use Rattle.joint.proofs.demand.scaled_force.Tie as tie
+
+mul-whole-square-root : tie.Need-mul-whole-square-root
+mul-whole-square-root c = search needs
+
+whole-square-root-requires : tie.Need-whole-square-root-requires
+whole-square-root-requires c κs = search needs
+
+add-result : tie.Need-add-result
+add-result c = omega (arith, root-small (c .before .pre) (c .whole-square-root .ensures .low))
+
+returns : tie.Need-returns
+unfolding forceOf
+returns c =
+    let small : 1048576 * c .before .args .total < 2 ^ 64 = omega (arith, c .before .pre) in (
+      ap (λ (r : ℕ). r + 1) (square-root-is (1048576 * c .before .args .total) (c .whole-square-root .result) small (c .whole-square-root .ensures)),
+      omega (arith, root-small (c .before .pre) (c .whole-square-root .ensures .low)),
+    )
+
+pub scaled-force-spec : {M : Type 1} → statement M
+scaled-force-spec =
+    tie.close (tie.spec mul-whole-square-root whole-square-root-requires add-result returns)

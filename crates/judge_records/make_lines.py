@@ -1,0 +1,106 @@
+#!/usr/bin/env python3
+"""Writes data/, args and stdout of this folder, run there: the joints of document 01 and some more, and the line of each.
+
+Refusals come from the reference engineer. Figures are worked out here with exact integers, as docs/DECISIONS.md says which figure
+within its bracket is reported, and are held to the engineer's brackets.
+"""
+import math
+import pathlib
+import sys
+
+HERE = pathlib.Path(__file__).resolve().parent
+ROOT = HERE.parent.parent
+sys.path.insert(0, str(ROOT / "tests" / "engineer"))
+import engineer  # noqa: E402
+
+DENSITY = {1: 350, 2: 380, 3: 385, 4: 365, 5: 425, 6: 390, 7: 440, 8: 400}
+STEEL = {1: 360, 2: 430, 3: 510}
+KMOD = {1: (60, 70, 80, 90, 110), 2: (60, 70, 80, 90, 110), 3: (50, 55, 65, 70, 90)}
+
+
+def root(n, q, k):
+    """The greatest r with r^k q <= n."""
+    low, high = 0, 1
+    while high ** k * q <= n:
+        high *= 2
+    while high - low > 1:
+        middle = (low + high) // 2
+        low, high = (middle, high) if middle ** k * q <= n else (low, middle)
+    return low
+
+
+def figures(record):
+    """U, C and E of an accepted record."""
+    import struct
+    parts = {}
+    for k in range(4):
+        offset, length = struct.unpack_from("<HH", record, 4 + 4 * k)
+        parts[record[offset]] = record[offset:offset + length]
+    p = parts[1][1]
+    members = [struct.unpack_from("<BBH", parts[1], 2 + 20 * k) for k in range(2)]
+    d, fu = parts[2][1], STEEL[parts[2][2]]
+    n = parts[3][1]
+    places = [struct.unpack_from("<ii", parts[3], 2 + 8 * i) for i in range(n)]
+    h = KMOD[parts[4][1]][parts[4][2] - 1]
+    force = struct.unpack_from("<ii", parts[4], 3)
+    total = force[0] ** 2 + force[1] ** 2
+    along = [abs(force[m[1]]) for m in members]
+    k90 = 1350 + 15 * d
+    num = [DENSITY[m[0]] * total for m in members]
+    den = [k90 * (total - a * a) + 1000 * a * a for a in along]
+    cross = [num[0] * den[1], num[1] * den[0]]
+    k = 82 * (100 - d) * d
+    moment = root((300 * fu) ** 5 * d ** 13, 1, 5)
+    terms = [math.isqrt(529 * k * moment * num[0] * num[1] // (10 * sum(cross)))]
+
+    def wedge(i):
+        r = math.isqrt((cross[1 - i] << 60) // sum(cross))
+        return k * members[i][2] * num[i] * r // (den[i] * ((1 << 30) + r))
+
+    terms.append(wedge(0))
+    terms.append(wedge(1) if p == 1 else k * members[1][2] * num[1] // (2 * den[1]))
+    c = min(terms)
+    shares = []
+    for m in members:
+        share = 10000
+        for i in range(n):
+            row = sorted(q[m[1]] for q in places if q[1 - m[1]] == places[i][1 - m[1]])
+            if len(row) > 1:
+                a1 = min(b - a for a, b in zip(row, row[1:]))
+                share = min(share, root(10 ** 80 * a1 ** 5, len(row) ** 2 * (130 * d) ** 5, 20))
+        shares.append(share)
+    planes2 = p if n == 1 else 2 * n * p
+    g = math.isqrt(total << 20) + 1
+    uses = [-(-26 * 10 ** 8 * g // (1024 * planes2 * h * c))]
+    uses += [-(-26 * 10 ** 12 * a // (planes2 * h * e * c)) for a, e in zip(along, shares)]
+    return max(uses), c // 1000, min(shares)
+
+
+def line(record):
+    if len(record) > 4096:
+        return "refused 4 0 0 0"
+    refusal = engineer.parse(record)
+    if isinstance(refusal, tuple):
+        return "refused %d %d %d %d" % refusal
+    u, c, e = figures(record)
+    text = "%s %d %d %d" % ("fits" if u <= 10000 else "overloaded", u, c, e)
+    fault = engineer.check(record, text + "\n")
+    if fault is not True:
+        sys.exit("%s: %s" % (text, fault))
+    return text
+
+
+def main():
+    records = {path.stem: path.read_bytes() for path in sorted((ROOT / "examples").glob("*.rec"))}
+    b = records["joint-b"]
+    records["no-bytes"] = b""
+    records["twenty-bytes"] = b[:20]
+    records["too-long"] = b + bytes(4097 - len(b))
+    (HERE / "data").mkdir(exist_ok=True)
+    for name, record in records.items():
+        (HERE / "data" / name).write_bytes(record)
+    (HERE / "args").write_text("".join(name + "\n" for name in records))
+    (HERE / "stdout").write_text("".join("%s: %s\n" % (name, line(record)) for name, record in records.items()))
+
+
+main()

@@ -1,0 +1,228 @@
+"""Tests of the engineer itself: against the figures that document 01 prints, and against
+its sentences taken literally with fractions.
+
+  selftest.py [--count N] [--seed S]
+"""
+import argparse
+from fractions import Fraction
+from math import isqrt
+from random import Random
+
+import engineer
+import records
+
+DIGITS = 60
+
+
+class Literal:
+    """Document 01 word for word, in fractions."""
+
+    def __init__(self, j):
+        self.j = j
+        self.f2 = Fraction(j.fx ** 2 + j.fy ** 2)
+        self.f = []
+        for m in (0, 1):
+            along = (j.fx, j.fy)[j.grain[m]]
+            cos2 = along ** 2 / self.f2
+            k90 = Fraction("1.35") + Fraction("0.015") * j.d
+            self.f.append(Fraction("0.082") * (1 - Fraction("0.01") * j.d)
+                          * (350, 380, 385, 365, 425, 390, 440, 400)[j.cls[m] - 1]
+                          / (k90 * (1 - cos2) + cos2))
+        f1, f2 = self.f
+        fu = (360, 430, 510)[j.steel - 1]
+        self.one = (Fraction("2.3") ** 10 * (j.d * f1 * f2 / (f1 + f2)) ** 5
+                    * (Fraction("0.3") * fu) ** 5 * j.d ** 13)
+        self.s2, self.c2 = f2 / (f1 + f2), f1 / (f1 + f2)
+        self.k1 = f1 * j.d * Fraction(j.t[0], 10)
+        self.k2 = f2 * j.d * Fraction(j.t[1], 10)
+
+    def at_most_R(self, x):
+        if x ** 10 > self.one:
+            return False
+        if not (x <= self.k1 and x ** 2 <= (self.k1 - x) ** 2 * self.s2):
+            return False
+        if self.j.p == 1:
+            return x <= self.k2 and x ** 2 <= (self.k2 - x) ** 2 * self.c2
+        return x <= self.k2 / 2
+
+    def rows(self, m):
+        """(n, a1) of every row of member m."""
+        axis = self.j.grain[m]
+        for c in {xy[1 - axis] for xy in self.j.dowels}:
+            row = [xy[axis] for xy in self.j.dowels if xy[1 - axis] == c]
+            yield len(row), min((abs(a - b) for i, a in enumerate(row) for b in row[:i]), default=0)
+
+    def not_below(self, e, n, a1):
+        if n == 1:
+            return e >= 1
+        return e >= n or e ** 20 * (130 * self.j.d) ** 5 >= n ** 18 * a1 ** 5
+
+    def not_above(self, e, n, a1):
+        if n == 1:
+            return e <= 1
+        return e <= n and e ** 20 * (130 * self.j.d) ** 5 <= n ** 18 * a1 ** 5
+
+    def just_not_below(self, n, a1):
+        """A fraction not below the effective number and nearer than 10**-DIGITS."""
+        low, high = 0, n * 10 ** DIGITS
+        while high - low > 1:
+            middle = (low + high) // 2
+            if self.not_below(Fraction(middle, 10 ** DIGITS), n, a1):
+                high = middle
+            else:
+                low = middle
+        return Fraction(high, 10 ** DIGITS)
+
+    def enough(self, v):
+        """With one g and one e for each row, so near to their bounds that no v tried
+        here lies between."""
+        j = self.j
+        h = ((60, 70, 80, 90, 110), (60, 70, 80, 90, 110), (50, 55, 65, 70, 90))[
+            j.service - 1][j.duration - 1]
+        count = len(j.dowels)
+        t = Fraction(count * j.p) if count > 1 else Fraction(j.p, 2)
+        g = Fraction(isqrt(int(self.f2) * 100 ** DIGITS), 10 ** DIGITS)
+        if not self.at_most_R(130 * g / (t * h * v)):
+            return False
+        for m in (0, 1):
+            c = abs((j.fx, j.fy)[j.grain[m]])
+            for n, a1 in set(self.rows(m)):
+                e = self.just_not_below(n, a1)
+                if not self.at_most_R(130 * c * n / (e * t * h * v)):
+                    return False
+        return True
+
+    def pair_passes(self, along, across, m):
+        """along >= (3 + 2 cos) d or across >= 3d, lengths in tenths."""
+        d = 10 * self.j.d
+        cos2 = Fraction((self.j.fx, self.j.fy)[self.j.grain[m]] ** 2) / self.f2
+        return (along >= 3 * d and Fraction(along - 3 * d) ** 2 >= 4 * cos2 * d * d) or across >= 3 * d
+
+    def end_passes(self, dist, m, towards):
+        d = 10 * self.j.d
+        force = (self.j.fx, self.j.fy)[self.j.grain[m]] * (1 if m == 1 else -1)
+        if force * towards > 0:
+            return dist >= 7 * d and dist >= 800
+        sin2 = 1 - Fraction(force ** 2) / self.f2
+        return dist >= 3 * d and dist >= 0 and Fraction(dist) ** 2 >= 49 * d * d * sin2
+
+    def spacing(self):
+        j = self.j
+        for m in (0, 1):
+            axis = j.grain[m]
+            x = j.outline[m]
+            for i in range(len(j.dowels)):
+                for k in range(i + 1, len(j.dowels)):
+                    p, q = j.dowels[i], j.dowels[k]
+                    if not self.pair_passes(abs(p[axis] - q[axis]), abs(p[1 - axis] - q[1 - axis]), m):
+                        return 10, m + 1, i + 1, k + 1
+            for i, xy in enumerate(j.dowels):
+                if not (self.end_passes(xy[axis] - x[axis], m, -1)
+                        and self.end_passes(x[axis + 2] - xy[axis], m, 1)):
+                    return 11, m + 1, i + 1, 0
+            for i, xy in enumerate(j.dowels):
+                if xy[1 - axis] - x[1 - axis] < 30 * j.d or x[3 - axis] - xy[1 - axis] < 30 * j.d:
+                    return 12, m + 1, i + 1, 0
+        return None
+
+
+def printed():
+    """The figures printed in document 01."""
+    for name, data, want in records.samples():
+        ref = engineer.Reference(data)
+        if isinstance(want, str):
+            assert ref.describe() + "\n" == want, name
+            continue
+        use, cap, share = ref.values().ranges()
+        verdict = ref.describe().split()[0]
+        assert want[0] in (None, verdict), name
+        for got, said in ((use, want[1]), (cap, want[2]), (share, want[3])):
+            assert said is None or got == said, (name, got, said)
+    # both verdicts are open from 26,781 to 26,916 and nowhere else
+    for fx, verdict in ((26780, "fits"), (26781, "fits|overloaded"), (26916, "fits|overloaded"),
+                        (26917, "overloaded")):
+        data = records.write(records.joint_b(force=(fx, 0)))
+        assert engineer.Reference(data).describe().split()[0] == verdict, fx
+
+
+def ties():
+    """Exact figures."""
+    hair = Fraction(1, 10 ** 40)
+    for label, data in records.tie_records():
+        x = engineer.Reference(data).values()
+        if label.startswith("R "):
+            r = int(label[2:].replace(",", ""))
+            assert x.at_most_R(r) and not x.at_most_R(r + hair), label
+        if label.startswith("use "):
+            v = Fraction(label[4:])
+            assert x.enough(v) and not x.enough(v - hair), label
+            assert x.not_above_use(v.numerator, v.denominator)
+            assert not x.not_above_use((v + hair).numerator, (v + hair).denominator)
+            tenths = int(v * 10)
+            assert x.ranges()[0] == (1000 * tenths, 1005 * tenths + 2), label
+
+
+def literal(seed, count):
+    r = Random(seed)
+    accepted = spaced = 0
+    for n, (label, data) in enumerate(records.stream(seed, 10 ** 9)):
+        if n >= count:
+            break
+        if n % 7 and n < 9000:
+            continue                            # a seventh of the systematic records
+        j = engineer.read(data)
+        if not isinstance(j, engineer.Joint):
+            continue
+        lit = Literal(j)
+        spaced += 1
+        found = engineer.spacing(j)
+        assert found == lit.spacing(), (n, label)
+        if found or len(j.dowels) > 20:
+            continue
+        accepted += 1
+        x = engineer.Exact(j)
+        (low, high), (_, cap), (_, share) = x.ranges()
+        for y in (Fraction(cap), Fraction(cap + 1), cap + Fraction(r.randrange(10 ** 9), 10 ** 9),
+                  Fraction(r.randrange(2 * cap)), Fraction(0)):
+            assert x.at_most_R(y) == lit.at_most_R(y), (n, label, y)
+        assert lit.at_most_R(Fraction(cap)) and not lit.at_most_R(Fraction(cap + 1))
+        rows = set(lit.rows(0)) | set(lit.rows(1))
+        assert rows == x.rows[0] | x.rows[1]
+        for k, a1 in rows:
+            for e in (Fraction(k), Fraction(k, 2), Fraction(r.randrange(1, 10 ** 6), 10 ** 6) * k):
+                assert x.not_below(e, k, a1) == lit.not_below(e, k, a1)
+                assert x.not_above(e, k, a1) == lit.not_above(e, k, a1)
+        assert all(lit.not_above(Fraction(share * k, 10000), k, a1) for k, a1 in rows)
+        assert not all(lit.not_above(Fraction((share + 1) * k, 10000), k, a1) for k, a1 in rows)
+        for v in (Fraction(low, 10000), Fraction(low - 1, 10000), Fraction(high - 2, 10050),
+                  Fraction(high - 1, 10050), Fraction(r.randrange(1, 2 * low + 1), 10000)):
+            if v <= 0:
+                continue
+            want = lit.enough(v)
+            for quick in (True, False):
+                assert x.enough_of(v.numerator, v.denominator, quick) == want, (n, label, v)
+                below = x.not_above_use(v.numerator, v.denominator, quick)
+                # at v itself both hold only on a tie
+                assert below or want, (n, label, v)
+                assert below == (not lit.enough(v - Fraction(1, 10 ** 30))), (n, label, v)
+        assert x.enough_of(low, 10000) and not x.enough_of(low - 1, 10000)
+        # bounds on U from the literal test alone
+        assert not lit.enough(Fraction(high - 2, 10050) - Fraction(1, 10 ** 30)) or high <= 2
+        assert lit.enough(Fraction(high - 1, 10050) + Fraction(1, 10 ** 30)) or high <= 1
+    return spaced, accepted
+
+
+def main():
+    p = argparse.ArgumentParser(description=__doc__)
+    p.add_argument("--count", type=int, default=11000)
+    p.add_argument("--seed", type=int, default=5)
+    a = p.parse_args()
+    printed()
+    ties()
+    spaced, accepted = literal(a.seed, a.count)
+    print("printed figures and ties right; %d spacings and %d joints as the literal text has them"
+          % (spaced, accepted))
+
+
+if __name__ == "__main__":
+    main()

@@ -1,0 +1,766 @@
+"""Wrong programs: model.py with one thing changed in each.  The harness must report all."""
+from math import atan2, cos, isqrt, sin      # floating point in wrong programs only
+
+from model import Model, Refused, ceil_div
+
+WRONG = []          # (group, name, class)
+
+
+def wrong(group, name):
+    def keep(cls):
+        WRONG.append((group, name, cls))
+        return cls
+    return keep
+
+
+def changed(group, name, **methods):
+    WRONG.append((group, name, type("Wrong", (Model,), methods)))
+
+
+# ------------------------------------------------------ mistakes that look reasonable
+
+MISTAKE, WORTHLESS = "mistake", "worthless"
+
+
+def nearest(self, find):
+    """find() in halves, rounded to the nearest whole number."""
+    self.scale = 2
+    try:
+        return (find() + 1) // 2
+    finally:
+        self.scale = 1
+
+
+changed(MISTAKE, "capacity rounded to nearest",
+        capacity=lambda self: nearest(self, lambda: min(self.terms())))
+
+
+@wrong(MISTAKE, "share rounded to nearest")
+class _(Model):
+    def row_share(self, n, a1):
+        return nearest(self, lambda: Model.row_share(self, n, a1))
+
+
+@wrong(MISTAKE, "effective number rounded to a whole number")
+class _(Model):
+    def row_share(self, n, a1):
+        share = Model.row_share(self, n, a1)
+        whole = (share * n + 5000) // 10000
+        return min(10000, whole * 10000 // n)
+
+
+changed(MISTAKE, "force in member 1 signed as in member 2", sign=lambda self, m: 1)
+changed(MISTAKE, "member 1's angle for both bearings",
+        bearing_squares=lambda self, m: self.squares(0))
+changed(MISTAKE, "both spacings of a pair asked",
+        pair=lambda self, a, c, m: self.pair_across(c, m) and self.pair_along(a, m))
+changed(MISTAKE, "lone dowel with its full capacity", twice_t=lambda self: 2 * self.n * self.p)
+
+# ------------------------------------------------------------------ worthless versions
+
+changed(WORTHLESS, "refuses all, 4", judge=lambda self, data: "refused 4 0 0 0\n")
+changed(WORTHLESS, "refuses all, 7", judge=lambda self, data: "refused 7 0 0 0\n")
+changed(WORTHLESS, "refuses all that it could accept, 9",
+        figures=lambda self: self.refuse(), refuse=lambda self: (_ for _ in ()).throw(Refused(9)))
+changed(WORTHLESS, "all overloaded, with a huge use", use=lambda self, cap, shares: 99999999)
+changed(WORTHLESS, "one fixed report", judge=lambda self, data: "fits 7431 7440 7346\n")
+changed(WORTHLESS, "one fixed report where accepted", figures=lambda self: (7431, 7440, 7346))
+changed(WORTHLESS, "zero report, fits", figures=lambda self: (0, 0, 0))
+changed(WORTHLESS, "zero report, overloaded",
+        figures=lambda self: (0, 0, 0), fits=lambda self, use: False)
+changed(WORTHLESS, "zero capacity only", print_answer=lambda self, u, c, e:
+        Model.print_answer(self, u, 0, e))
+changed(WORTHLESS, "row share made up: 10,000", share=lambda self, shares: 10000)
+changed(WORTHLESS, "row share made up: 9,999", share=lambda self, shares: 9999)
+changed(WORTHLESS, "row share made up: 0", share=lambda self, shares: 0)
+changed(WORTHLESS, "row share made up, use from it", shares=lambda self: (7346, 7346))
+changed(WORTHLESS, "no row share, use from it", shares=lambda self: (10000, 10000))
+changed(WORTHLESS, "names dowels 1 and 2 unmeasured", close=lambda self, m, i, j: Refused(10, m + 1, 1, 2))
+changed(WORTHLESS, "always 10 1 1 2",
+        test_pairs_of_dowels=lambda self, m: (_ for _ in ()).throw(Refused(10, 1, 1, 2)))
+
+# -------------------------------------------------------------------------- spacing
+
+SPACE = "spacing"
+
+
+@wrong(SPACE, "strict: pair along")
+class _(Model):
+    def pair_along(self, a, m):
+        a2, _, f2 = self.squares(m)
+        over = a - 30 * self.d
+        return over > 0 and over * over * f2 > 400 * self.d ** 2 * a2
+
+
+@wrong(SPACE, "strict: pair along, force along only")
+class _(Model):
+    def pair_along(self, a, m):
+        a2, c2, f2 = self.squares(m)
+        return Model.pair_along(self, a, m) and not (c2 == 0 and a == 50 * self.d)
+
+
+@wrong(SPACE, "strict: pair along, skew only")
+class _(Model):
+    def pair_along(self, a, m):
+        a2, c2, f2 = self.squares(m)
+        over = a - 30 * self.d
+        return (Model.pair_along(self, a, m)
+                and not (a2 and c2 and over * over * f2 == 400 * self.d ** 2 * a2))
+
+
+changed(SPACE, "strict: pair across", pair_across=lambda self, c, m: c > 30 * self.d)
+changed(SPACE, "strict: loaded end 7d", loaded_7d=lambda self, a: a > 70 * self.d)
+changed(SPACE, "strict: loaded end 80 mm", loaded_80=lambda self, a: a > 800)
+changed(SPACE, "strict: other end 3d", other_3d=lambda self, a: a > 30 * self.d)
+changed(SPACE, "strict: edges 3d", edge=lambda self, c: c > 30 * self.d)
+
+
+@wrong(SPACE, "strict: other end 7d sin")
+class _(Model):
+    def other_sine(self, a, m):
+        _, c2, f2 = self.squares(m)
+        return a >= 0 and a * a * f2 > 4900 * self.d ** 2 * c2
+
+
+@wrong(SPACE, "strict: other end 7d sin, skew only")
+class _(Model):
+    def other_sine(self, a, m):
+        a2, c2, f2 = self.squares(m)
+        return (Model.other_sine(self, a, m)
+                and not (a2 and c2 and a * a * f2 == 4900 * self.d ** 2 * c2))
+
+
+for _name, _by in (("one tenth lax", 1), ("one tenth severe", -1)):
+    def _pair_along(self, a, m, by=_by):
+        return Model.pair_along(self, a + by, m)
+
+    def _other_sine(self, a, m, by=_by):
+        return Model.other_sine(self, a + by, m)
+    changed(SPACE, "%s: pair along" % _name, pair_along=_pair_along)
+    changed(SPACE, "%s: pair across" % _name,
+            pair_across=lambda self, c, m, by=_by: c + by >= 30 * self.d)
+    changed(SPACE, "%s: loaded end 7d" % _name, loaded_7d=lambda self, a, by=_by: a + by >= 70 * self.d)
+    changed(SPACE, "%s: loaded end 80 mm" % _name, loaded_80=lambda self, a, by=_by: a + by >= 800)
+    changed(SPACE, "%s: other end 7d sin" % _name, other_sine=_other_sine)
+    changed(SPACE, "%s: other end 3d" % _name, other_3d=lambda self, a, by=_by: a + by >= 30 * self.d)
+    changed(SPACE, "%s: edges" % _name, edge=lambda self, c, by=_by: c + by >= 30 * self.d)
+
+changed(SPACE, "80 mm left out", loaded_80=lambda self, a: True)
+changed(SPACE, "80 mm at every end", other_end=lambda self, a, m: Model.other_end(self, a, m) and a >= 800)
+changed(SPACE, "40 mm at the other end", other_end=lambda self, a, m: Model.other_end(self, a, m) and a >= 400)
+changed(SPACE, "80 mm sin at the other end", other_end=lambda self, a, m: Model.other_end(self, a, m)
+        and a * a * self.squares(m)[2] >= 640000 * self.squares(m)[1])
+changed(SPACE, "7d left out at the loaded end", loaded_7d=lambda self, a: True)
+changed(SPACE, "3d left out at the other end", other_3d=lambda self, a: True)
+changed(SPACE, "7d sin left out at the other end", other_sine=lambda self, a, m: True)
+changed(SPACE, "7d at the other end", other_sine=lambda self, a, m: a >= 70 * self.d)
+changed(SPACE, "other end from the cosine", other_sine=lambda self, a, m: a >= 0 and a * a * self.squares(m)[2]
+        >= 4900 * self.d ** 2 * self.squares(m)[0])
+changed(SPACE, "no component: both ends loaded", end_is_loaded=lambda self, c: c >= 0)
+
+
+@wrong(SPACE, "no component: the high end loaded")
+class _(Model):
+    def test_ends(self, m):
+        if self.axes(m, self.force)[0] == 0:
+            # asked for the low end, then for the high end
+            self.end_is_loaded = lambda c, it=iter((False, True)): next(it)
+        try:
+            Model.test_ends(self, m)
+        finally:
+            self.__dict__.pop("end_is_loaded", None)
+
+
+changed(SPACE, "a small component loads no end",
+        end_is_loaded=lambda self, c: c > 0 and c * c * 10000 > sum(f * f for f in self.force))
+changed(SPACE, "both ends loaded", end_is_loaded=lambda self, c: True)
+changed(SPACE, "no end loaded", end_is_loaded=lambda self, c: False)
+changed(SPACE, "force reversed in both members", sign=lambda self, m: -1 if m == 1 else 1)
+changed(SPACE, "force in member 2 signed as in member 1", sign=lambda self, m: -1)
+changed(SPACE, "the other member's angle", spacing_squares=lambda self, m: self.squares(1 - m))
+changed(SPACE, "member 1's angle for both", spacing_squares=lambda self, m: self.squares(0))
+changed(SPACE, "angle from x whatever the grain", spacing_squares=lambda self, m: (
+    self.force[0] ** 2, self.force[1] ** 2, self.force[0] ** 2 + self.force[1] ** 2))
+changed(SPACE, "pair along 5d", pair_along=lambda self, a, m: a >= 50 * self.d)
+changed(SPACE, "pair along 3d", pair_along=lambda self, a, m: a >= 30 * self.d)
+changed(SPACE, "pair from the sine", pair_along=lambda self, a, m: a >= 30 * self.d and
+        (a - 30 * self.d) ** 2 * self.squares(m)[2] >= 400 * self.d ** 2 * self.squares(m)[1])
+
+
+@wrong(SPACE, "pair with a signed cosine")
+class _(Model):
+    def pair_along(self, a, m):
+        if self.sign(m) * self.axes(m, self.force)[0] < 0:
+            over = 30 * self.d - a
+            a2, _, f2 = self.squares(m)
+            return over <= 0 or over * over * f2 <= 400 * self.d ** 2 * a2
+        return Model.pair_along(self, a, m)
+
+
+changed(SPACE, "pair by straight distance",
+        pair=lambda self, a, c, m: self.pair_across(c, m) or self.pair_along(isqrt(a * a + c * c), m))
+changed(SPACE, "pairs not tested", test_pairs_of_dowels=lambda self, m: None,
+        a1=lambda self, gaps: max(1, min(gaps)))
+changed(SPACE, "ends not tested", test_ends=lambda self, m: None)
+changed(SPACE, "edges not tested", test_edges=lambda self, m: None)
+changed(SPACE, "member 1 only", members=(0,))
+changed(SPACE, "member 2 only", members=(1,))
+changed(SPACE, "distances outside taken as positive", edge=lambda self, c: abs(c) >= 30 * self.d)
+changed(SPACE, "ends outside taken as positive",
+        other_end=lambda self, a, m: Model.other_end(self, abs(a), m),
+        loaded_end=lambda self, a, m: Model.loaded_end(self, abs(a), m))
+
+
+@wrong(SPACE, "only neighbours in the record tested as pairs")
+class _(Model):
+    def a1(self, gaps):
+        return max(1, min(gaps))
+
+    def test_pairs_of_dowels(self, m):
+        for i in range(self.n - 1):
+            (a, c), (b, e) = self.axes(m, self.xy[i]), self.axes(m, self.xy[i + 1])
+            if not self.pair(abs(a - b), abs(c - e), m):
+                raise Refused(10, m + 1, i + 1, i + 2)
+
+
+@wrong(SPACE, "two dowels on one spot pass")
+class _(Model):
+    def a1(self, gaps):
+        return max(1, min(gaps))
+
+    def pair(self, a, c, m):
+        return (a, c) == (0, 0) or Model.pair(self, a, c, m)
+
+
+@wrong(SPACE, "one end only, the high one")
+class _(Model):
+    def test_ends(self, m):
+        self.outline[m][0 if self.grain[m] == 0 else 1] = -10 ** 9
+        Model.test_ends(self, m)
+
+
+@wrong(SPACE, "one edge only, the low one")
+class _(Model):
+    def test_edges(self, m):
+        self.outline[m][3 if self.grain[m] == 0 else 2] = 10 ** 9
+        Model.test_edges(self, m)
+
+
+@wrong(SPACE, "cosine to six places, rounded up")
+class _(Model):
+    def pair_along(self, a, m):
+        a2, _, f2 = self.squares(m)
+        cosine = ceil_div(10 ** 12 * a2, f2)
+        root = isqrt(cosine)
+        root += root * root < cosine
+        return (a - 30 * self.d) * 10 ** 6 >= 20 * self.d * root
+
+
+@wrong(SPACE, "cosine to six places, rounded down")
+class _(Model):
+    def pair_along(self, a, m):
+        a2, _, f2 = self.squares(m)
+        return (a - 30 * self.d) * 10 ** 6 >= 20 * self.d * isqrt(10 ** 12 * a2 // f2)
+
+
+@wrong(SPACE, "sine to six places, rounded up")
+class _(Model):
+    def other_sine(self, a, m):
+        _, c2, f2 = self.squares(m)
+        sine = ceil_div(10 ** 12 * c2, f2)
+        root = isqrt(sine)
+        root += root * root < sine
+        return a * 10 ** 6 >= 70 * self.d * root
+
+
+@wrong(SPACE, "pairs in floating point")
+class _(Model):
+    def pair_along(self, a, m):
+        fa, fc = self.axes(m, self.force)
+        return a / 10 >= (3 + 2 * abs(cos(atan2(fc, fa)))) * self.d
+
+
+@wrong(SPACE, "ends in floating point")
+class _(Model):
+    def other_sine(self, a, m):
+        fa, fc = self.axes(m, self.force)
+        return a / 10 >= 7 * self.d * abs(sin(atan2(fc, fa)))
+
+
+# ------------------------------------------------------------------- order and place
+
+ORDER = "order and place"
+changed(ORDER, "first and second dowel exchanged", close=lambda self, m, i, j: Refused(10, m + 1, j + 1, i + 1))
+
+
+@wrong(ORDER, "first and second fault exchanged: pairs")
+class _(Model):
+    def test_pairs_of_dowels(self, m):
+        found = []
+        for i in range(self.n):
+            for j in range(i + 1, self.n):
+                (a, c), (b, e) = self.axes(m, self.xy[i]), self.axes(m, self.xy[j])
+                if not self.pair(abs(a - b), abs(c - e), m):
+                    found.append((i, j))
+        if found:
+            raise self.close(m, *found[min(1, len(found) - 1)])
+
+
+@wrong(ORDER, "last close pair")
+class _(Model):
+    def test_pairs_of_dowels(self, m):
+        for i in reversed(range(self.n)):
+            for j in reversed(range(i + 1, self.n)):
+                (a, c), (b, e) = self.axes(m, self.xy[i]), self.axes(m, self.xy[j])
+                if not self.pair(abs(a - b), abs(c - e), m):
+                    raise self.close(m, i, j)
+
+
+@wrong(ORDER, "pairs by j, then by i")
+class _(Model):
+    def test_pairs_of_dowels(self, m):
+        for j in range(self.n):
+            for i in range(j):
+                (a, c), (b, e) = self.axes(m, self.xy[i]), self.axes(m, self.xy[j])
+                if not self.pair(abs(a - b), abs(c - e), m):
+                    raise self.close(m, i, j)
+
+
+@wrong(ORDER, "two ends at once: low end of all, then high end")
+class _(Model):
+    def test_ends(self, m):
+        k = 0 if self.grain[m] == 0 else 1
+        for far in (k + 2, k):
+            kept = self.outline[m][far]
+            self.outline[m][far] = 10 ** 9 if far > 1 else -10 ** 9
+            try:
+                Model.test_ends(self, m)
+            finally:
+                self.outline[m][far] = kept
+
+
+changed(ORDER, "last dowel near an end or edge", in_order=lambda self: reversed(range(self.n)))
+changed(ORDER, "dowels counted from 0", close=lambda self, m, i, j: Refused(10, m + 1, i, j))
+changed(ORDER, "member counted from 0", print_refusal=lambda self, n, m, i, j:
+        Model.print_refusal(self, n, m - 1 if n > 9 else m, i, j))
+changed(ORDER, "second dowel repeats the first", print_refusal=lambda self, n, m, i, j:
+        Model.print_refusal(self, n, m, i, i if n > 10 else j))
+changed(ORDER, "no place", print_refusal=lambda self, n, m, i, j: Model.print_refusal(self, n, 0, 0, 0))
+changed(ORDER, "a place for 1 to 9", print_refusal=lambda self, n, m, i, j:
+        Model.print_refusal(self, n, m or 1, i, j))
+changed(ORDER, "member 2 first", members=(1, 0))
+changed(ORDER, "members exchanged in the place", print_refusal=lambda self, n, m, i, j:
+        Model.print_refusal(self, n, 3 - m if m else 0, i, j))
+changed(ORDER, "11 before 10", spacing_tests=("test_ends", "test_pairs_of_dowels", "test_edges"))
+changed(ORDER, "12 before 11", spacing_tests=("test_pairs_of_dowels", "test_edges", "test_ends"))
+changed(ORDER, "11 and 12 exchanged", print_refusal=lambda self, n, m, i, j:
+        Model.print_refusal(self, {11: 12, 12: 11}.get(n, n), m, i, j))
+
+
+@wrong(ORDER, "by number, then by member")
+class _(Model):
+    def answer(self, data):
+        if len(data) > self.most:
+            raise Refused(4)
+        self.read(data)
+        for test in self.spacing_tests:
+            for m in (0, 1):
+                getattr(self, test)(m)
+        return self.print_answer(*self.figures())
+
+
+@wrong(ORDER, "11 and 12 dowel by dowel")
+class _(Model):
+    spacing_tests = ("test_pairs_of_dowels", "dowel_by_dowel")
+
+    def dowel_by_dowel(self, m):
+        count = self.n
+        for i in range(count):
+            self.in_order = lambda i=i: (i,)
+            try:
+                self.test_ends(m)
+                self.test_edges(m)
+            finally:
+                del self.in_order
+
+
+changed(ORDER, "8 before 7", value_tests=("test_outlines", "test_fields", "test_force"))
+changed(ORDER, "9 before 7", value_tests=("test_force", "test_fields", "test_outlines"))
+changed(ORDER, "9 before 8", value_tests=("test_fields", "test_force", "test_outlines"))
+changed(ORDER, "3 before 2", layout_tests=("test_count", "test_version", "test_pairs"))
+changed(ORDER, "4 before 2", layout_tests=("test_pairs", "test_version", "test_count"))
+changed(ORDER, "4 before 3", layout_tests=("test_version", "test_pairs", "test_count"))
+
+
+@wrong(ORDER, "6 before 5")
+class _(Model):
+    def test_kinds(self):
+        for kind, want in ((1, 42), (2, 3), (4, 11)):
+            if kind in self.parts and self.parts[kind][1] != want:
+                raise Refused(6)
+        Model.test_kinds(self)
+
+
+@wrong(ORDER, "loads tested after the outlines")
+class _(Model):
+    def test_fields(self):
+        kept = self.duration
+        self.duration = 1
+        Model.test_fields(self)
+        self.duration = kept
+
+    def test_outlines(self):
+        Model.test_outlines(self)
+        if not 1 <= self.duration <= 5:
+            raise Refused(7)
+
+
+# --------------------------------------------------------------------------- reading
+
+READ = "reading"
+changed(READ, "big-endian", byteorder="big")
+changed(READ, "big-endian, 32 bits only",
+        i32=lambda self, at: int.from_bytes(self.data[at:at + 4], "big", signed=True))
+changed(READ, "big-endian, pairs only",
+        u16=lambda self, at: int.from_bytes(self.data[at:at + 2], "big" if 4 <= at < 20 else "little"))
+changed(READ, "big-endian, thickness only",
+        u16=lambda self, at: int.from_bytes(self.data[at:at + 2], "big" if at >= 20 else "little"))
+changed(READ, "32 bits unsigned", i32=lambda self, at: int.from_bytes(self.data[at:at + 4], "little"))
+changed(READ, "sign and magnitude", i32=lambda self, at: (lambda n: -(n - 2 ** 31) if n >= 2 ** 31 else n)(
+    int.from_bytes(self.data[at:at + 4], "little")))
+changed(READ, "16 bits of 32", i32=lambda self, at: int.from_bytes(self.data[at:at + 2], "little", signed=True))
+changed(READ, "sums wrap", add=lambda self, a, b: (a + b) & 65535)
+changed(READ, "empty pairs pass", zero_length=lambda self, n: False)
+changed(READ, "bytes after the last part pass", end_wrong=lambda self, at: at > len(self.data))
+changed(READ, "a last part that runs out passes", end_wrong=lambda self, at: at < len(self.data))
+changed(READ, "a last part that runs out is filled with zeros", read=lambda self, data: Model.read(
+    self, data + bytes(max(0, int.from_bytes(data[16:18], "little") + int.from_bytes(data[18:20], "little")
+                           - len(data))) if len(data) >= 100 else data))
+changed(READ, "end not tested", end_wrong=lambda self, at: False)
+changed(READ, "gaps pass", gap=lambda self, offset, at: offset < at)
+changed(READ, "overlaps pass", gap=lambda self, offset, at: offset > at)
+changed(READ, "first offset not tested", gap=lambda self, offset, at: at != 20 and offset != at)
+changed(READ, "version not tested", test_version=lambda self: None)
+changed(READ, "version by its low byte", test_version=lambda self: (
+    (_ for _ in ()).throw(Refused(2)) if self.data[0] != 1 else 0) and None)
+changed(READ, "count not tested", test_count=lambda self: None)
+changed(READ, "19 bytes enough", read=lambda self, data: Model.read(self, data + bytes(len(data) == 19)))
+changed(READ, "unknown kind is 7", test_kinds=lambda self: (_ for _ in ()).throw(
+    Refused(7 if set(self.parts) - {1, 2, 3, 4} else 5)) if set(self.parts) != {1, 2, 3, 4} else None)
+
+
+@wrong(READ, "pairs sorted first")
+class _(Model):
+    def test_pairs(self):
+        head = bytearray(self.data[:20])
+        pairs = sorted((head[k:k + 4] for k in (4, 8, 12, 16)), key=lambda b: b[0] + 256 * b[1])
+        self.data = bytes(head[:4]) + b"".join(bytes(p) for p in pairs) + self.data[20:]
+        Model.test_pairs(self)
+
+
+@wrong(READ, "kinds in fixed order only")
+class _(Model):
+    def test_kinds(self):
+        if [self.data[o] for o, _ in self.pairs] != [1, 2, 3, 4]:
+            raise Refused(5)
+
+
+@wrong(READ, "kinds not tested, by place")
+class _(Model):
+    part_tests = ("test_lengths",)
+
+    def sort_parts(self):
+        self.parts = {k + 1: p for k, p in enumerate(self.pairs)}
+
+
+@wrong(READ, "longer parts pass")
+class _(Model):
+    def test_lengths(self):
+        for kind, want in ((1, 42), (2, 3), (4, 11)):
+            if self.parts[kind][1] < want:
+                raise Refused(6)
+        o, n = self.parts[3]
+        if n < 2 or n < 2 + 8 * self.data[o + 1]:
+            raise Refused(6)
+
+
+@wrong(READ, "number of dowels from the length")
+class _(Model):
+    def test_lengths(self):
+        o, n = self.parts[3]
+        if (n - 2) % 8 == 0 and 10 <= n <= 514:
+            self.data = self.data[:o + 1] + bytes([(n - 2) // 8]) + self.data[o + 2:]
+        Model.test_lengths(self)
+
+
+@wrong(READ, "no dowels is 6")
+class _(Model):
+    def test_lengths(self):
+        Model.test_lengths(self)
+        if self.data[self.parts[3][0] + 1] == 0:
+            raise Refused(6)
+
+
+@wrong(READ, "65 dowels is 6")
+class _(Model):
+    def test_lengths(self):
+        Model.test_lengths(self)
+        if self.data[self.parts[3][0] + 1] > 64:
+            raise Refused(6)
+
+
+@wrong(READ, "position part of 1 byte not tested")
+class _(Model):
+    def test_lengths(self):
+        o, n = self.parts[3]
+        if n == 1:
+            raise Refused(7)
+        Model.test_lengths(self)
+
+
+changed(READ, "x0 = x1 passes", empty=lambda self, low, high: low > high)
+changed(READ, "outlines not tested", test_outlines=lambda self: None)
+
+
+@wrong(READ, "outlines in x only")
+class _(Model):
+    def test_outlines(self):
+        for x0, y0, x1, y1 in self.outline:
+            if x0 >= x1:
+                raise Refused(8)
+
+
+@wrong(READ, "outline of member 1 only")
+class _(Model):
+    def test_outlines(self):
+        x0, y0, x1, y1 = self.outline[0]
+        if x0 >= x1 or y0 >= y1:
+            raise Refused(8)
+
+
+changed(READ, "force 0 not tested", test_force=lambda self: None)
+changed(READ, "force 0 taken as 1 N", test_force=lambda self: setattr(
+    self, "force", (1, 0) if self.force == (0, 0) else self.force))
+
+
+@wrong(READ, "one component 0 refused")
+class _(Model):
+    def test_force(self):
+        if 0 in self.force:
+            raise Refused(9)
+
+
+for _field, (_low, _high) in Model.limits.items():
+    for _side, _by in ((0, -1), (0, 1), (1, -1), (1, 1)):
+        if _field == "grain" and (_side, _by) == (0, -1):
+            continue                    # a u8 below 0: no such byte
+        _limit = [_low, _high]
+        _limit[_side] += _by
+        if _field in ("p", "class", "grain", "diameter", "steel", "count", "service", "duration") \
+                and _limit[0] < 0:
+            continue
+        # the tables go on a little, so that a wider limit gives an answer and no crash
+        changed("limits", "%s from %d to %d" % (_field, _limit[0], _limit[1]),
+                limits=dict(Model.limits, **{_field: tuple(_limit)}),
+                density=Model.density | {0: 350, 9: 350}, fu=Model.fu | {0: 360, 4: 510},
+                kmod_dry=Model.kmod_dry + (110,), kmod_wet=Model.kmod_wet + (90,),
+                twice_t=lambda self: Model.twice_t(self) or 1)
+
+# -------------------------------------------------------------------------- capacity
+
+CAP = "capacity"
+changed(CAP, "the other member's angle", bearing_squares=lambda self, m: self.squares(1 - m))
+changed(CAP, "member 2's angle for both bearings", bearing_squares=lambda self, m: self.squares(1))
+changed(CAP, "sine and cosine exchanged", bearing_squares=lambda self, m: (
+    self.squares(m)[1], self.squares(m)[0], self.squares(m)[2]))
+changed(CAP, "k90 = 1 for d <= 8", k90=lambda self: 1000 if self.d <= 8 else 1350 + 15 * self.d)
+changed(CAP, "k90 = 1 for d <= 6", k90=lambda self: 1000 if self.d <= 6 else 1350 + 15 * self.d)
+changed(CAP, "k90 = 1.35", k90=lambda self: 1350)
+changed(CAP, "k90 of hardwood", k90=lambda self: 900 + 15 * self.d)
+changed(CAP, "s and c exchanged", s_squared=Model.c_squared, c_squared=Model.s_squared)
+changed(CAP, "s for both", c_squared=Model.s_squared)
+changed(CAP, "c for both", s_squared=Model.c_squared)
+changed(CAP, "first term only", capacity=lambda self: self.terms()[0])
+changed(CAP, "first term left out", capacity=lambda self: min(self.terms()[1:]))
+changed(CAP, "second term left out", capacity=lambda self: min(self.terms()[::2]))
+changed(CAP, "third term left out", capacity=lambda self: min(self.terms()[:2]))
+changed(CAP, "third term of p = 1 for p = 2", third_term=lambda self, f1, f2:
+        self.bent(f2, self.t[1], *self.c_squared(f1, f2)))
+changed(CAP, "third term of p = 2 for p = 1", third_term=lambda self, f1, f2: self.middle(f2))
+changed(CAP, "middle member not halved", middle=lambda self, f2: f2[0] * self.d * self.t[1] // (10 * f2[1]))
+changed(CAP, "thicknesses exchanged", terms=lambda self: (self.t.reverse(), Model.terms(self))[1])
+changed(CAP, "one density for both", terms=lambda self: (self.cls.__setitem__(1, self.cls[0]),
+                                                         Model.terms(self))[1])
+changed(CAP, "classes exchanged", terms=lambda self: (self.cls.reverse(), Model.terms(self))[1])
+changed(CAP, "M with d to the 2.5", d_to_13=lambda self: isqrt(self.d ** 25))
+changed(CAP, "M with d to the 3", d_to_13=lambda self: self.d ** 15)
+changed(CAP, "M 1 % high", moment_factor=lambda self: 3 * self.fu[self.steel] * 101 // 100)
+changed(CAP, "M with 0.8 fu d^3/6 of older papers",
+        first_term=lambda self, f1, f2: self.root10(
+            23 ** 10 * (self.d * f1[0] * f2[0]) ** 5 * (8 * self.fu[self.steel] * self.d ** 3) ** 5,
+            (f1[0] * f2[1] + f2[0] * f1[1]) ** 5 * 10 ** 10 * 60 ** 5))
+changed(CAP, "2 for 2.3", root10=lambda self, num, den: Model.root10(self, num * 20 ** 10, den * 23 ** 10))
+changed(CAP, "rounded up", capacity=lambda self: min(self.terms()) + 1)
+changed(CAP, "2 below", capacity=lambda self: min(self.terms()) - 2)
+
+
+@wrong(CAP, "2 below the next whole number (shows on exact ties)")
+class _(Model):
+    def figures(self):
+        use, cap, share = Model.figures(self)
+        self.scale = 1 << 60
+        fine = min(self.terms())
+        self.scale = 1
+        return use, ceil_div(fine, 1 << 60) - 2 if fine % (1 << 60) == 0 else cap, share
+
+
+@wrong(CAP, "floor of a value a hair low (strict at exact ties, 2 off)")
+class _(Model):
+    def capacity(self):
+        self.scale = 1 << 60
+        fine = min(self.terms())
+        self.scale = 1
+        return (fine - 1 >> 60) - 1
+
+
+changed(CAP, "halved for a lone dowel", print_answer=lambda self, u, c, e:
+        Model.print_answer(self, u, c // 2 if self.n == 1 else c, e))
+changed(CAP, "of both planes", print_answer=lambda self, u, c, e: Model.print_answer(self, u, c * self.p, e))
+changed(CAP, "of the joint", print_answer=lambda self, u, c, e: Model.print_answer(self, u, c * self.n, e))
+changed(CAP, "design value", print_answer=lambda self, u, c, e:
+        Model.print_answer(self, u, c * self.kmod() // 130, e))
+changed(CAP, "fifth root at whole numbers only", root10=lambda self, num, den:
+        Model.root10(self, num // den // 10 ** 10, 1) * 10)
+for _c in Model.density:
+    for _by in (-5, 5):
+        changed("tables", "density of class %d by %d" % (_c, _by),
+                density=Model.density | {_c: Model.density[_c] + _by})
+for _s in Model.fu:
+    changed("tables", "fu of steel %d by 10" % _s, fu=Model.fu | {_s: Model.fu[_s] + 10})
+for _k in range(5):
+    for _table in ("kmod_dry", "kmod_wet"):
+        for _by in (-5, 5):
+            _new = list(getattr(Model, _table))
+            _new[_k] += _by
+            changed("tables", "%s of duration %d by %d" % (_table, _k + 1, _by), **{_table: tuple(_new)})
+
+# ------------------------------------------------------------------------------ rows
+
+ROWS = "rows"
+changed(ROWS, "a1 the greatest distance", a1=lambda self, gaps: max(gaps))
+changed(ROWS, "a1 the mean distance", a1=lambda self, gaps: sum(gaps) // len(gaps))
+changed(ROWS, "a1 the first distance", a1=lambda self, gaps: gaps[0])
+changed(ROWS, "a1 in whole mm", a1=lambda self, gaps: min(gaps) // 10 * 10)
+changed(ROWS, "a1 from dowels in record order", rows=lambda self, m: (lambda rows: [
+    (len(v), min(abs(b - a) for a, b in zip(v, v[1:]))) for v in rows.values() if len(v) > 1])(
+        (lambda d: [d.setdefault(c, []).append(a) for a, c in (self.axes(m, xy) for xy in self.xy)] and d)({})))
+changed(ROWS, "rows by the along coordinate", row_axes=lambda self, m, xy: self.axes(m, xy)[::-1])
+changed(ROWS, "rows of member 1 for both", row_axes=lambda self, m, xy: self.axes(0, xy))
+changed(ROWS, "rows of member 2 for both", row_axes=lambda self, m, xy: self.axes(1, xy))
+changed(ROWS, "all dowels one row", row_axes=lambda self, m, xy: (self.axes(m, xy)[0], 0),
+        a1=lambda self, gaps: min([g for g in gaps if g] or [1]))
+changed(ROWS, "first row only", rows=lambda self, m: Model.rows(self, m)[:1])
+changed(ROWS, "longest row only", rows=lambda self, m: sorted(Model.rows(self, m))[-1:])
+changed(ROWS, "share of member 1 only", share=lambda self, shares: shares[0])
+changed(ROWS, "share of member 2 only", share=lambda self, shares: shares[1])
+changed(ROWS, "greatest share", share=lambda self, shares: max(shares))
+changed(ROWS, "product of the shares", share=lambda self, shares: shares[0] * shares[1] // 10000)
+changed(ROWS, "mean of the shares", share=lambda self, shares: sum(shares) // 2)
+changed(ROWS, "effective number above n", at_most_n=lambda self, share: share)
+changed(ROWS, "effective number never above n - 1", row_share=lambda self, n, a1:
+        min(Model.row_share(self, n, a1), (n - 1) * 10000 // n))
+changed(ROWS, "n to the 0.9 forgotten", row_share=lambda self, n, a1: Model.row_share(self, 1, a1))
+changed(ROWS, "a1 over 10d", row_share=lambda self, n, a1: Model.row_share(self, n, a1 * 13 // 10))
+changed(ROWS, "square root for fourth root", root20=lambda self, n: isqrt(Model.root20(self, n) ** 2)
+        * Model.root20(self, n) // 10000)
+changed(ROWS, "rows skipped where the force is across", rows=lambda self, m:
+        Model.rows(self, m) if self.axes(m, self.force)[0] else [])
+changed(ROWS, "share rounded up", share=lambda self, shares: min(shares) + 1)
+changed(ROWS, "share 2 below", share=lambda self, shares: min(shares) - 2)
+changed(ROWS, "share 2 below where it is exact", share=lambda self, shares:
+        min(shares) - 2 * (min(shares) in (5000, 10000)))
+changed(ROWS, "the effective number printed", print_answer=lambda self, u, c, e:
+        Model.print_answer(self, u, c, e * self.n))
+changed(ROWS, "the share of all dowels", print_answer=lambda self, u, c, e:
+        Model.print_answer(self, u, c, min(10000, e * 101 // 100)))
+
+# ------------------------------------------------------------------------------- use
+
+USE = "use"
+changed(USE, "gamma 1", gamma=lambda self: 100)
+changed(USE, "gamma 1.25", gamma=lambda self: 125)
+changed(USE, "service class 2 as 3", kmod=lambda self: (
+    self.kmod_dry if self.service == 1 else self.kmod_wet)[self.duration - 1])
+changed(USE, "service class not looked at", kmod=lambda self: self.kmod_dry[self.duration - 1])
+changed(USE, "duration reversed", kmod=lambda self: (
+    self.kmod_wet if self.service == 3 else self.kmod_dry)[5 - self.duration])
+changed(USE, "one shear plane always", twice_t=lambda self: 2 * self.n if self.n > 1 else 1)
+changed(USE, "two shear planes always", twice_t=lambda self: 4 * self.n if self.n > 1 else 2)
+changed(USE, "lone dowel counts a quarter", up=lambda self, a, b: ceil_div(a * (2 if self.n == 1 else 1), b))
+changed(USE, "single rows count half", twice_t=lambda self: (
+    self.n * self.p if all(not self.rows(m) for m in (0, 1)) else 2 * self.n * self.p))
+changed(USE, "one dowel less", twice_t=lambda self: 2 * max(1, self.n - 1) * self.p if self.n > 1 else self.p)
+changed(USE, "force rounded up to a newton", force_size=lambda self: ceil_div(Model.force_size(self), 1 << 40) << 40)
+changed(USE, "force rounded down to a newton", force_size=lambda self: Model.force_size(self) >> 40 << 40)
+changed(USE, "sum of the components", force_size=lambda self: sum(map(abs, self.force)) << 40)
+changed(USE, "greater component", force_size=lambda self: max(map(abs, self.force)) << 40)
+changed(USE, "x only", force_size=lambda self: abs(self.force[0]) << 40)
+changed(USE, "row check left out", row_check=lambda self, m: False)
+changed(USE, "row check in member 1 only", row_check=lambda self, m: m == 0)
+changed(USE, "row check in member 2 only", row_check=lambda self, m: m == 1)
+changed(USE, "row check left out above 40 degrees", row_check=lambda self, m: (lambda a2, c2, f2:
+        c2 * 1000000 <= 413176 * f2)(*self.squares(m)))
+changed(USE, "row check left out above 45 degrees", row_check=lambda self, m: (lambda a2, c2, f2:
+        c2 <= a2)(*self.squares(m)))
+changed(USE, "total check left out", total_check=lambda self: False)
+changed(USE, "row check with the whole force", row_force=lambda self, m: isqrt(sum(f * f for f in self.force)))
+changed(USE, "row check with the component across", row_force=lambda self, m: abs(self.axes(m, self.force)[1]))
+changed(USE, "row check with the signed component", row_force=lambda self, m:
+        self.sign(m) * self.axes(m, self.force)[0])
+changed(USE, "row check with the signed component, member 2", row_force=lambda self, m:
+        self.axes(m, self.force)[0])
+changed(USE, "row check with the least share of both", use=lambda self, cap, shares:
+        Model.use(self, cap, (min(shares),) * 2))
+changed(USE, "shares exchanged", use=lambda self, cap, shares: Model.use(self, cap, shares[::-1]))
+changed(USE, "checks added", use=lambda self, cap, shares: Model.use(self, cap, shares)
+        + Model.use(self, cap, (10000, 10000)))
+changed(USE, "rounded down", up=lambda self, a, b: a // b)
+changed(USE, "rounded to nearest", up=lambda self, a, b: (2 * a + b) // (2 * b))
+changed(USE, "1 % high", up=lambda self, a, b: ceil_div(a * 101, b * 100))
+changed(USE, "0.6 % high", up=lambda self, a, b: ceil_div(a * 1006, b * 1000))
+changed(USE, "3 too high", up=lambda self, a, b: ceil_div(a, b) + 3)
+changed(USE, "0.1 % low", up=lambda self, a, b: ceil_div(a * 999, b * 1000))
+changed(USE, "0 for a tiny force", use=lambda self, cap, shares: (lambda u: 0 if u < 3 else u)(
+    Model.use(self, cap, shares)))
+changed(USE, "cut at 65,535", use=lambda self, cap, shares: min(65535, Model.use(self, cap, shares)))
+changed(USE, "cut at 10,001", use=lambda self, cap, shares: min(10001, Model.use(self, cap, shares)))
+changed(USE, "below the exact tie", use=lambda self, cap, shares: (lambda u: u - (u % 1000 == 0))(
+    Model.use(self, cap, shares)))
+changed(USE, "fits below 10,000 only", fits=lambda self, use: use < 10000)
+changed(USE, "fits up to 10,001", fits=lambda self, use: use <= 10001)
+changed(USE, "fits up to 10,050", fits=lambda self, use: use <= 10050)
+changed(USE, "always fits", fits=lambda self, use: True)
+changed(USE, "always overloaded", fits=lambda self, use: False)
+changed(USE, "verdict turned round", fits=lambda self, use: use > 10000)
+
+# -------------------------------------------------------------------------- printing
+
+PRINT = "printing"
+changed(PRINT, "no newline", judge=lambda self, data: Model.judge(self, data)[:-1])
+changed(PRINT, "carriage return", judge=lambda self, data: Model.judge(self, data)[:-1] + "\r\n")
+changed(PRINT, "two newlines", judge=lambda self, data: Model.judge(self, data) + "\n")
+changed(PRINT, "leading zeros", print_answer=lambda self, u, c, e:
+        "%s %05d %05d %05d\n" % ("fits" if u <= 10000 else "overloaded", u, c, e))
+changed(PRINT, "order C U E", print_answer=lambda self, u, c, e:
+        "%s %d %d %d\n" % ("fits" if u <= 10000 else "overloaded", c, u, e))
+changed(PRINT, "order U E C", print_answer=lambda self, u, c, e:
+        "%s %d %d %d\n" % ("fits" if u <= 10000 else "overloaded", u, e, c))
+changed(PRINT, "number only on refusals", print_refusal=lambda self, n, m, i, j: "refused %d\n" % n)
+changed(PRINT, "no 4,096 rule", most=10 ** 9)
+changed(PRINT, "4,096 bytes refused", most=4095)
+changed(PRINT, "4,097 bytes judged", most=4097)
+changed(PRINT, "cut to 4,096 bytes and judged", answer=lambda self, data: Model.answer(self, data[:4096]))
+changed(PRINT, "too long is 1", answer=lambda self, data: (_ for _ in ()).throw(Refused(1))
+        if len(data) > 4096 else Model.answer(self, data))
+changed(PRINT, "too long only if nothing else", answer=lambda self, data: (
+    Model.answer(self, data) if len(data) <= 4096 else (setattr(self, "most", 10 ** 9), Model.answer(self, data))[1]))
