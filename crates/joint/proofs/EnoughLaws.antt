@@ -64,10 +64,10 @@ reached : (T : Fraction) (h c : ℕ) → (c + 2) over 1000 ≼ planeForce (whole
 reached T h c = omega arith
 
 module _ (v : Values) (s : Sound v) where
-  abbrev P : Fraction → Type 0
+  abbrev pub P : Fraction → Type 0
   P = AtMostR (planeOf v)
 
-  abbrev T : Fraction
+  abbrev pub T : Fraction
   T = countedPlanes v
 
   drops : (x y : Fraction) → Proper x → y ≼ x → P x → P y
@@ -87,10 +87,11 @@ module _ (v : Values) (s : Sound v) where
       go true = lit< tt
       go false = lit< tt
 
-  force-proper : (g u : Fraction) → Proper g → Above0 u → Proper (planeForce g T (kmod v) u)
+  -- no denominator of the two forces is 0
+  pub force-proper : (g u : Fraction) → Proper g → Above0 u → Proper (planeForce g T (kmod v) u)
   force-proper g u pg pu = mul-pos (mul-pos (lit< tt) pg) (mul-pos (mul-pos T-some (s .kmod-some)) (pu .num))
 
-  row-proper : (c n : ℕ) (e u : Fraction) → Above0 e → Above0 u → Proper (rowForce c n e T (kmod v) u)
+  pub row-proper : (c n : ℕ) (e u : Fraction) → Above0 e → Above0 u → Proper (rowForce c n e T (kmod v) u)
   row-proper c n e u pe pu = mul-pos (lit< tt) (mul-pos (mul-pos (mul-pos (pe .num) T-some) (s .kmod-some)) (pu .num))
 
   -- more is enough where less is

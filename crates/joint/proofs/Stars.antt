@@ -136,18 +136,19 @@ not-more a b f = omega (arith, lt-of-not-le f)
 
 -- ---- accepted records: from the claim and a few tests at numerals to 01's ranges
 -- a record's values where it is accepted
+-- an accepted record's values are sound for the laws of 'enough'
+pub sound : (v : Values) → Passed v → Sound v
+sound v p = record {
+  plane = plane v p;
+  dowels = p .fields .dowels-low;
+  shear = p .fields .planes-low;
+  diameter = omega (arith, p .fields .diameter-low);
+  kmod-some = omega (arith, known v p .demand .check .kmod-low);
+}
+
 module _ (v : Values) (p : Passed v) where
   abbrev R : Fraction → Type 0
   R = AtMostR (planeOf v)
-
-  sound : Sound v
-  sound = record {
-    plane = plane v p;
-    dowels = p .fields .dowels-low;
-    shear = p .fields .planes-low;
-    diameter = omega (arith, p .fields .diameter-low);
-    kmod-some = omega (arith, known v p .demand .check .kmod-low);
-  }
 
   -- c passes and c + 1 fails, so a capacity is c or one less
   capacity-two : (c C : ℕ) → R (whole (c + 1)) → (R (whole (c + 2)) → ⊥) → CapacityBracket v C → Within c (c + 1) C
@@ -170,7 +171,7 @@ module _ (v : Values) (p : Passed v) where
       → ShareBracket v E → Within e (e + 1) E
   share-two e E every₁ every₂ fails b = record {
     from = ⊎-elim (some-fails (v .members .member1) e E every₁) (some-fails (v .members .member2) e E every₂) (b .some);
-    to = not-more E (e + 1) (λ h. fails (share-falls (v .members .member1) E (e + 2) 0 (omega arith) (b .side 0 (sound .dowels))));
+    to = not-more E (e + 1) (λ h. fails (share-falls (v .members .member1) E (e + 2) 0 (omega arith) (b .side 0 (sound v p .dowels))));
   }
 
   -- u is enough, so the use is at most 10,050 u + 2; w is not, so it is above 10,000 w
@@ -179,7 +180,7 @@ module _ (v : Values) (p : Passed v) where
 
   use-least : (w U : ℕ) → 0 < w → (Enough v (w over 10000) → ⊥) → UseBracket v U → w + 1 ≤ U
   use-least w U pw n b =
-      not-more (w + 1) U (λ h. n (enough-up v sound (U over 10000) (w over 10000) (record { num = pw; den = lit< tt }) (omega arith) (b .enough)))
+      not-more (w + 1) U (λ h. n (enough-up v (sound v p) (U over 10000) (w over 10000) (record { num = pw; den = lit< tt }) (omega arith) (b .enough)))
 
 -- ---- joint B and its kin: their values
 abbrev fourDowels : Positions

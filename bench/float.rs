@@ -1,0 +1,281 @@
+// The same job in plain floating point: read a record, refuse it, or give verdict, use, capacity and row share.
+// Nothing here is proved, and comparisons are only as good as f64: it is a yardstick for the benchmark.
+
+const DENSITY: [f64; 8] = [350., 380., 385., 365., 425., 390., 440., 400.];
+const STEEL: [f64; 3] = [360., 430., 510.];
+const KMOD: [[f64; 5]; 3] = [
+    [0.60, 0.70, 0.80, 0.90, 1.10],
+    [0.60, 0.70, 0.80, 0.90, 1.10],
+    [0.50, 0.55, 0.65, 0.70, 0.90],
+];
+
+#[derive(Clone, Copy)]
+struct Member {
+    class: u8,
+    grain: u8,
+    thickness: f64,
+    x0: f64,
+    y0: f64,
+    x1: f64,
+    y1: f64,
+}
+
+// Lengths in tenths of a millimetre, the diameter in millimetres, forces in newtons.
+struct Joint {
+    planes: u8,
+    members: [Member; 2],
+    d: f64,
+    steel: u8,
+    n: usize,
+    x: [f64; 64],
+    y: [f64; 64],
+    service: u8,
+    duration: u8,
+    fx: f64,
+    fy: f64,
+}
+
+type Refusal = [u64; 4];
+
+fn u16_at(b: &[u8], i: usize) -> usize {
+    u16::from_le_bytes([b[i], b[i + 1]]) as usize
+}
+
+fn i32_at(b: &[u8], i: usize) -> f64 {
+    i32::from_le_bytes([b[i], b[i + 1], b[i + 2], b[i + 3]]) as f64
+}
+
+fn refuse<T>(number: u64) -> Result<T, Refusal> {
+    Err([number, 0, 0, 0])
+}
+
+// Refusals 1 to 6; where each kind's part starts.
+fn layout(b: &[u8]) -> Result<[usize; 4], Refusal> {
+    if b.len() < 20 {
+        return refuse(1);
+    }
+    if u16_at(b, 0) != 1 {
+        return refuse(2);
+    }
+    if u16_at(b, 2) != 4 {
+        return refuse(3);
+    }
+    let mut end = 20;
+    for k in 0..4 {
+        let (offset, length) = (u16_at(b, 4 + 4 * k), u16_at(b, 6 + 4 * k));
+        if offset != end || length == 0 {
+            return refuse(4);
+        }
+        end += length;
+    }
+    if end != b.len() {
+        return refuse(4);
+    }
+    let mut at = [0; 4];
+    let mut lengths = [0; 4];
+    for k in 0..4 {
+        let offset = u16_at(b, 4 + 4 * k);
+        let kind = b[offset] as usize;
+        if !(1..=4).contains(&kind) || at[kind - 1] != 0 {
+            return refuse(5);
+        }
+        at[kind - 1] = offset;
+        lengths[kind - 1] = u16_at(b, 6 + 4 * k);
+    }
+    if lengths[0] != 42 || lengths[1] != 3 || lengths[3] != 11 {
+        return refuse(6);
+    }
+    if lengths[2] < 2 || lengths[2] != 2 + 8 * b[at[2] + 1] as usize {
+        return refuse(6);
+    }
+    Ok(at)
+}
+
+fn member(b: &[u8], i: usize) -> Member {
+    Member {
+        class: b[i],
+        grain: b[i + 1],
+        thickness: u16_at(b, i + 2) as f64,
+        x0: i32_at(b, i + 4),
+        y0: i32_at(b, i + 8),
+        x1: i32_at(b, i + 12),
+        y1: i32_at(b, i + 16),
+    }
+}
+
+// Refusals 1 to 9.
+fn read(b: &[u8]) -> Result<Joint, Refusal> {
+    let at = layout(b)?;
+    let n = b[at[2] + 1] as usize;
+    if !(1..=64).contains(&n) {
+        return refuse(7);
+    }
+    let mut j = Joint {
+        planes: b[at[0] + 1],
+        members: [member(b, at[0] + 2), member(b, at[0] + 22)],
+        d: b[at[1] + 1] as f64,
+        steel: b[at[1] + 2],
+        n,
+        x: [0.; 64],
+        y: [0.; 64],
+        service: b[at[3] + 1],
+        duration: b[at[3] + 2],
+        fx: i32_at(b, at[3] + 3),
+        fy: i32_at(b, at[3] + 7),
+    };
+    for i in 0..n {
+        j.x[i] = i32_at(b, at[2] + 2 + 8 * i);
+        j.y[i] = i32_at(b, at[2] + 6 + 8 * i);
+    }
+    let coordinate = |z: f64| z.abs() <= 100_000.;
+    let fields = (1..=2).contains(&j.planes)
+        && j.members.iter().all(|m| {
+            (1..=8).contains(&m.class)
+                && m.grain <= 1
+                && (200. ..=4000.).contains(&m.thickness)
+                && [m.x0, m.y0, m.x1, m.y1].into_iter().all(coordinate)
+        })
+        && (6. ..=30.).contains(&j.d)
+        && (1..=3).contains(&j.steel)
+        && j.x[..n].iter().chain(&j.y[..n]).all(|&z| coordinate(z))
+        && (1..=3).contains(&j.service)
+        && (1..=5).contains(&j.duration)
+        && j.fx.abs() <= 1e6
+        && j.fy.abs() <= 1e6;
+    if !fields {
+        return refuse(7);
+    }
+    if j.members.iter().any(|m| m.x0 >= m.x1 || m.y0 >= m.y1) {
+        return refuse(8);
+    }
+    if j.fx == 0. && j.fy == 0. {
+        return refuse(9);
+    }
+    Ok(j)
+}
+
+// Refusals 10 to 12 of a member, with the force in it.
+fn spacing(j: &Joint, k: usize, fx: f64, fy: f64) -> Result<(), Refusal> {
+    let m = &j.members[k];
+    let place = k as u64 + 1;
+    let (along, across, force) =
+        if m.grain == 0 { (&j.x[..j.n], &j.y[..j.n], fx) } else { (&j.y[..j.n], &j.x[..j.n], fy) };
+    let ((end0, end1), (edge0, edge1)) =
+        if m.grain == 0 { ((m.x0, m.x1), (m.y0, m.y1)) } else { ((m.y0, m.y1), (m.x0, m.x1)) };
+    let d = 10. * j.d;
+    let cos2 = force * force / (fx * fx + fy * fy);
+    let apart = (3. + 2. * cos2.sqrt()) * d;
+    for i in 0..j.n {
+        for l in i + 1..j.n {
+            if (along[i] - along[l]).abs() < apart && (across[i] - across[l]).abs() < 3. * d {
+                return Err([10, place, i as u64 + 1, l as u64 + 1]);
+            }
+        }
+    }
+    let loaded = (7. * d).max(800.);
+    let free = (7. * d * (1. - cos2).sqrt()).max(3. * d);
+    let low = if force < 0. { loaded } else { free };
+    let high = if force > 0. { loaded } else { free };
+    for i in 0..j.n {
+        if along[i] - end0 < low || end1 - along[i] < high {
+            return Err([11, place, i as u64 + 1, 0]);
+        }
+    }
+    for i in 0..j.n {
+        if across[i] - edge0 < 3. * d || edge1 - across[i] < 3. * d {
+            return Err([12, place, i as u64 + 1, 0]);
+        }
+    }
+    Ok(())
+}
+
+fn cos2(m: &Member, j: &Joint) -> f64 {
+    let c = if m.grain == 0 { j.fx } else { j.fy };
+    c * c / (j.fx * j.fx + j.fy * j.fy)
+}
+
+fn capacity(j: &Joint) -> f64 {
+    let bearing = |m: &Member| {
+        let c2 = cos2(m, j);
+        let k90 = 1.35 + 0.015 * j.d;
+        0.082 * (1. - 0.01 * j.d) * DENSITY[m.class as usize - 1] / (k90 * (1. - c2) + c2)
+    };
+    let [f1, f2] = [bearing(&j.members[0]), bearing(&j.members[1])];
+    let [t1, t2] = [j.members[0].thickness / 10., j.members[1].thickness / 10.];
+    let moment = 0.3 * STEEL[j.steel as usize - 1] * j.d.powf(2.6);
+    let s = (f2 / (f1 + f2)).sqrt();
+    let c = (f1 / (f1 + f2)).sqrt();
+    let first = 2.3 * (moment * j.d * f1 * f2 / (f1 + f2)).sqrt();
+    let second = f1 * j.d * t1 * s / (1. + s);
+    let third = if j.planes == 1 { f2 * j.d * t2 * c / (1. + c) } else { f2 * j.d * t2 / 2. };
+    first.min(second).min(third)
+}
+
+// The least effective number over n of the rows of a member.
+fn share(j: &Joint, m: &Member) -> f64 {
+    let (along, across) = if m.grain == 0 { (&j.x[..j.n], &j.y[..j.n]) } else { (&j.y[..j.n], &j.x[..j.n]) };
+    let mut least: f64 = 1.;
+    for i in 0..j.n {
+        if across[..i].contains(&across[i]) {
+            continue;
+        }
+        let mut row = [0f64; 64];
+        let mut n = 0;
+        for l in i..j.n {
+            if across[l] == across[i] {
+                row[n] = along[l];
+                n += 1;
+            }
+        }
+        if n < 2 {
+            continue;
+        }
+        let row = &mut row[..n];
+        row.sort_unstable_by(f64::total_cmp);
+        let a1 = row.windows(2).map(|w| w[1] - w[0]).fold(f64::INFINITY, f64::min);
+        let effective = (n as f64).powf(0.9) * (a1 / (130. * j.d)).powf(0.25);
+        least = least.min(effective / n as f64);
+    }
+    least
+}
+
+fn judge(b: &[u8]) -> [u64; 8] {
+    let refused = |r: Refusal| [0, r[0], r[1], r[2], r[3], 0, 0, 0];
+    let j = match read(b) {
+        Ok(j) => j,
+        Err(r) => return refused(r),
+    };
+    if let Err(r) = spacing(&j, 0, -j.fx, -j.fy) {
+        return refused(r);
+    }
+    if let Err(r) = spacing(&j, 1, j.fx, j.fy) {
+        return refused(r);
+    }
+    let r = capacity(&j);
+    let share1 = share(&j, &j.members[0]);
+    let share2 = if j.members[0].grain == j.members[1].grain { share1 } else { share(&j, &j.members[1]) };
+    let planes = if j.n == 1 { 0.5 * j.planes as f64 } else { j.n as f64 * j.planes as f64 };
+    let kmod = KMOD[j.service as usize - 1][j.duration as usize - 1];
+    let design = planes * kmod * r / 1.3;
+    let force = j.fx.hypot(j.fy);
+    let along = |m: &Member| if m.grain == 0 { j.fx.abs() } else { j.fy.abs() };
+    let used = (force / design)
+        .max(along(&j.members[0]) / (share1 * design))
+        .max(along(&j.members[1]) / (share2 * design));
+    let u = (10_000. * used).ceil() as u64;
+    let verdict = if u <= 10_000 { 1 } else { 2 };
+    [verdict, 0, 0, 0, 0, u, r as u64, (10_000. * share1.min(share2)) as u64]
+}
+
+/// # Safety
+/// The two slices are as include/joint.h says for joint_judge.
+#[no_mangle]
+pub unsafe extern "C" fn float_judge(record: *const u8, record_len: usize, report: *mut u64, report_len: usize) -> u32 {
+    if report_len < 8 {
+        return 1;
+    }
+    let record = unsafe { std::slice::from_raw_parts(record, record_len) };
+    let report = unsafe { std::slice::from_raw_parts_mut(report, report_len) };
+    report[..8].copy_from_slice(&judge(record));
+    0
+}

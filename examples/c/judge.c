@@ -1,0 +1,38 @@
+/* judge FILE: prints the line for the record in a file. */
+#include <inttypes.h>
+#include <stdio.h>
+
+#include "joint.h"
+
+int main(int argc, char **argv)
+{
+    static uint8_t record[4097];
+    uint64_t r[JOINT_FIELDS];
+
+    FILE *f = argc == 2 ? fopen(argv[1], "rb") : NULL;
+    if (f == NULL) {
+        fprintf(stderr, "usage: judge FILE\n");
+        return 2;
+    }
+    size_t length = fread(record, 1, sizeof record, f);
+    int failed = ferror(f);
+    fclose(f);
+    if (failed) {
+        fprintf(stderr, "%s: cannot be read\n", argv[1]);
+        return 2;
+    }
+    if (length == sizeof record) { /* as the program does: more than 4,096 bytes are refusal 4 */
+        puts("refused 4 0 0 0");
+        return 0;
+    }
+    if (joint_judge(record, length, r, JOINT_FIELDS) != JOINT_JUDGED)
+        return 2;
+    if (r[JOINT_VERDICT] == JOINT_REFUSED)
+        printf("refused %" PRIu64 " %" PRIu64 " %" PRIu64 " %" PRIu64 "\n",
+               r[JOINT_NUMBER], r[JOINT_MEMBER], r[JOINT_FIRST], r[JOINT_SECOND]);
+    else
+        printf("%s %" PRIu64 " %" PRIu64 " %" PRIu64 "\n",
+               r[JOINT_VERDICT] == JOINT_FITS ? "fits" : "overloaded",
+               r[JOINT_USE], r[JOINT_CAPACITY], r[JOINT_SHARE]);
+    return 0;
+}

@@ -1,0 +1,111 @@
+/* Calls joint_judge through include/joint.h and looks at every field.
+ * check JOINT-B DOWELS-599 MEMBER-1-EDGE-719 */
+#include <inttypes.h>
+#include <stdio.h>
+#include <string.h>
+
+#include "joint.h"
+
+#define ROOM 12
+#define LEFT UINT64_C(0xa5a5a5a5a5a5a5a5)
+
+static int faults = 0;
+static int tests = 0;
+
+static void expect(const char *what, uint64_t got, uint64_t low, uint64_t high)
+{
+    tests++;
+    if (got < low || got > high) {
+        faults++;
+        printf("%s: %" PRIu64 ", should be %" PRIu64 " to %" PRIu64 "\n", what, got, low, high);
+    }
+}
+
+static size_t read_file(const char *name, uint8_t *bytes, size_t room)
+{
+    FILE *f = fopen(name, "rb");
+    if (f == NULL) {
+        perror(name);
+        return 0;
+    }
+    size_t n = fread(bytes, 1, room, f);
+    fclose(f);
+    return n;
+}
+
+/* Judges into a slice of length numbers; the numbers past the slice and past JOINT_FIELDS must stay. */
+static uint32_t judged(const uint8_t *record, size_t n, uint64_t *report, size_t length)
+{
+    for (size_t i = 0; i < ROOM; i++)
+        report[i] = LEFT;
+    uint32_t result = joint_judge(record, n, report, length);
+    for (size_t i = length < JOINT_FIELDS ? 0 : JOINT_FIELDS; i < ROOM; i++)
+        expect("a number that must stay", report[i], LEFT, LEFT);
+    return result;
+}
+
+/* The places as numbers, not by their names: verdict, number, member, first, second, use, capacity, share. */
+static void fields(const char *name, const uint64_t *r, const uint64_t low[8], const uint64_t high[8])
+{
+    static const int named[8] = {JOINT_VERDICT, JOINT_NUMBER, JOINT_MEMBER, JOINT_FIRST,
+                                 JOINT_SECOND, JOINT_USE, JOINT_CAPACITY, JOINT_SHARE};
+    char what[80];
+    for (int i = 0; i < 8; i++) {
+        snprintf(what, sizeof what, "%s, field %d", name, i);
+        expect(what, r[i], low[i], high[i]);
+        expect("a name's place", (uint64_t)named[i], (uint64_t)i, (uint64_t)i);
+    }
+}
+
+int main(int argc, char **argv)
+{
+    static const uint64_t b_low[8] = {1, 0, 0, 0, 0, 7431, 7440, 7346};
+    static const uint64_t b_high[8] = {1, 0, 0, 0, 0, 7469, 7441, 7347};
+    static const uint64_t close[8] = {0, 10, 1, 1, 2, 0, 0, 0};
+    static const uint64_t edge[8] = {0, 12, 1, 3, 0, 0, 0, 0}; /* tells member and first dowel apart */
+    static const uint64_t empty[8] = {0, 1, 0, 0, 0, 0, 0, 0};
+    uint8_t b[4096], c[4096], e[4096], kept[4096];
+    uint64_t report[ROOM];
+
+    if (argc != 4)
+        return 2;
+    size_t nb = read_file(argv[1], b, sizeof b);
+    size_t nc = read_file(argv[2], c, sizeof c);
+    size_t ne = read_file(argv[3], e, sizeof e);
+    if (nb == 0 || nc == 0 || ne == 0)
+        return 2;
+    memcpy(kept, b, nb);
+
+    expect("JOINT_FIELDS", JOINT_FIELDS, 8, 8);
+    expect("JOINT_REFUSED", JOINT_REFUSED, 0, 0);
+    expect("JOINT_FITS", JOINT_FITS, 1, 1);
+    expect("JOINT_OVERLOADED", JOINT_OVERLOADED, 2, 2);
+    expect("JOINT_JUDGED", JOINT_JUDGED, 0, 0);
+    expect("JOINT_SHORT_REPORT", JOINT_SHORT_REPORT, 1, 1);
+
+    for (size_t length = 0; length <= ROOM; length++) {
+        uint32_t want = length < 8 ? 1 : 0;
+        expect("what joint B returns", judged(b, nb, report, length), want, want);
+        if (want == 0)
+            fields("joint B", report, b_low, b_high);
+        expect("what the refusal returns", judged(c, nc, report, length), want, want);
+        if (want == 0)
+            fields("the refusal", report, close, close);
+    }
+    expect("what the refused edge returns", judged(e, ne, report, 8), 0, 0);
+    fields("the refused edge", report, edge, edge);
+    expect("what no bytes return", judged(b, 0, report, 8), 0, 0);
+    fields("no bytes", report, empty, empty);
+
+    /* joint B's fx stands in bytes 102 to 105: 27,000 N overload it */
+    const uint64_t over_low[8] = {2, 0, 0, 0, 0, 10031, 7440, 7346};
+    const uint64_t over_high[8] = {2, 0, 0, 0, 0, 10083, 7441, 7347};
+    expect("the record is only read", (uint64_t)(memcmp(kept, b, nb) != 0), 0, 0);
+    b[102] = 0x78;
+    b[103] = 0x69;
+    expect("what the overloaded joint returns", judged(b, nb, report, 8), 0, 0);
+    fields("the overloaded joint", report, over_low, over_high);
+
+    printf("header: %d tests, %d faults\n", tests, faults);
+    return faults != 0;
+}
