@@ -1,6 +1,8 @@
 -- `demand::use_ten_thousandths` meets its contract.
 use native.Mathlib.Omega.{arith}
 use borrow.Author.Needs.{needs}
+use mathlib.Core.Path.{_∙_, ap₂}
+use Prim.Native.Nat.{max}
 use Rattle.joint.specs.Workings.{useOf}
 use Rattle.joint.proofs.demand.use_ten_thousandths.Statement.{statement}
 use Rattle.joint.proofs.demand.use_ten_thousandths.Tie as tie
@@ -22,7 +24,9 @@ greater-requires-2 c κs = search needs
 
 returns : tie.Need-returns
 unfolding useOf
-returns c = cc
+returns c =
+    c .greater2 .ensures
+    ∙ ap₂ max (c .before .before .greater .ensures ∙ ap₂ max (c .before .before .before .before .total-use .ensures) (c .before .before .before .row-use .ensures)) (c .before .row-use2 .ensures)
 
 pub use-ten-thousandths-spec : {M : Type 1} → statement M
 use-ten-thousandths-spec =
