@@ -1,4 +1,4 @@
-/* Times joint_judge against a floating-point and, with WITH_GMP, an exact version of the same job, holds their
+/* Times negwishal_judge against a floating-point and, with WITH_GMP, an exact version of the same job, holds their
  * answers to one another, and measures the stack.  bench [FILE..]: the records in the files are compared too. */
 #define _GNU_SOURCE
 #include <inttypes.h>
@@ -19,7 +19,7 @@ static const struct {
     const char *name;
     judge_fn *judge;
 } VERSION[] = {
-    {"proved", joint_judge},
+    {"proved", negwishal_judge},
     {"float", float_judge},
 #ifdef WITH_GMP
     {"GMP", exact_judge},

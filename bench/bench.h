@@ -7,7 +7,7 @@
 
 typedef uint32_t judge_fn(const uint8_t *record, size_t record_len, uint64_t *report, size_t report_len);
 
-judge_fn joint_judge; /* the proved library */
+judge_fn negwishal_judge; /* the proved library */
 judge_fn float_judge; /* bench/float.rs */
 judge_fn exact_judge; /* bench/exact.c */
 

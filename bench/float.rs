@@ -268,7 +268,7 @@ fn judge(b: &[u8]) -> [u64; 8] {
 }
 
 /// # Safety
-/// The two slices are as include/joint.h says for joint_judge.
+/// The two slices are as include/negwishal.h says for negwishal_judge.
 #[no_mangle]
 pub unsafe extern "C" fn float_judge(record: *const u8, record_len: usize, report: *mut u64, report_len: usize) -> u32 {
     if report_len < 8 {

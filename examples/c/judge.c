@@ -2,12 +2,12 @@
 #include <inttypes.h>
 #include <stdio.h>
 
-#include "joint.h"
+#include "negwishal.h"
 
 int main(int argc, char **argv)
 {
     static uint8_t record[4097];
-    uint64_t r[JOINT_FIELDS];
+    uint64_t r[NEGWISHAL_FIELDS];
 
     FILE *f = argc == 2 ? fopen(argv[1], "rb") : NULL;
     if (f == NULL) {
@@ -25,14 +25,14 @@ int main(int argc, char **argv)
         puts("refused 4 0 0 0");
         return 0;
     }
-    if (joint_judge(record, length, r, JOINT_FIELDS) != JOINT_JUDGED)
+    if (negwishal_judge(record, length, r, NEGWISHAL_FIELDS) != NEGWISHAL_JUDGED)
         return 2;
-    if (r[JOINT_VERDICT] == JOINT_REFUSED)
+    if (r[NEGWISHAL_VERDICT] == NEGWISHAL_REFUSED)
         printf("refused %" PRIu64 " %" PRIu64 " %" PRIu64 " %" PRIu64 "\n",
-               r[JOINT_NUMBER], r[JOINT_MEMBER], r[JOINT_FIRST], r[JOINT_SECOND]);
+               r[NEGWISHAL_NUMBER], r[NEGWISHAL_MEMBER], r[NEGWISHAL_FIRST], r[NEGWISHAL_SECOND]);
     else
         printf("%s %" PRIu64 " %" PRIu64 " %" PRIu64 "\n",
-               r[JOINT_VERDICT] == JOINT_FITS ? "fits" : "overloaded",
-               r[JOINT_USE], r[JOINT_CAPACITY], r[JOINT_SHARE]);
+               r[NEGWISHAL_VERDICT] == NEGWISHAL_FITS ? "fits" : "overloaded",
+               r[NEGWISHAL_USE], r[NEGWISHAL_CAPACITY], r[NEGWISHAL_SHARE]);
     return 0;
 }

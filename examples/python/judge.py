@@ -2,7 +2,7 @@
 """judge.py LIBRARY FILE..: prints the line for the record in each file.
 
 LIBRARY is a shared object with the archive in it:
-gcc -shared -o target/libjoint.so -Wl,--whole-archive target/staticlib/libjoint.a -Wl,--no-whole-archive
+gcc -shared -o target/libnegwishal.so -Wl,--whole-archive target/staticlib/libnegwishal.a -Wl,--no-whole-archive
 """
 import ctypes
 import os
@@ -14,7 +14,7 @@ WORDS = ("refused", "fits", "overloaded")
 
 
 def load(path):
-    judge = ctypes.CDLL(os.path.abspath(path)).joint_judge
+    judge = ctypes.CDLL(os.path.abspath(path)).negwishal_judge
     judge.argtypes = (ctypes.c_char_p, ctypes.c_size_t, ctypes.POINTER(ctypes.c_uint64), ctypes.c_size_t)
     judge.restype = ctypes.c_uint32
     return judge

@@ -61,7 +61,7 @@ class Library:
     FIGURES = ("use", "capacity", "share")
     MARK = 0xA5A5A5A5A5A5A5A5
 
-    def __init__(self, path, entry="joint_judge"):
+    def __init__(self, path, entry="negwishal_judge"):
         self.call = getattr(ctypes.CDLL(path), entry)
         self.call.restype = ctypes.c_int32
         self.call.argtypes = (ctypes.POINTER(ctypes.c_uint8), ctypes.c_size_t,

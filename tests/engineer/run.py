@@ -89,7 +89,7 @@ def main():
     p.add_argument("--skip", type=int, default=0, help="leave out the first records")
     p.add_argument("--program")
     p.add_argument("--library")
-    p.add_argument("--entry", default="joint_judge")
+    p.add_argument("--entry", default="negwishal_judge")
     p.add_argument("--wrong", action="store_true")
     p.add_argument("--only", help="with --wrong: names that contain this")
     p.add_argument("--show", type=int)

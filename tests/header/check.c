@@ -1,10 +1,10 @@
-/* Calls joint_judge through include/joint.h and looks at every field.
+/* Calls negwishal_judge through include/negwishal.h and looks at every field.
  * check JOINT-B DOWELS-599 MEMBER-1-EDGE-719 */
 #include <inttypes.h>
 #include <stdio.h>
 #include <string.h>
 
-#include "joint.h"
+#include "negwishal.h"
 
 #define ROOM 12
 #define LEFT UINT64_C(0xa5a5a5a5a5a5a5a5)
@@ -33,13 +33,13 @@ static size_t read_file(const char *name, uint8_t *bytes, size_t room)
     return n;
 }
 
-/* Judges into a slice of length numbers; the numbers past the slice and past JOINT_FIELDS must stay. */
+/* Judges into a slice of length numbers; the numbers past the slice and past NEGWISHAL_FIELDS must stay. */
 static uint32_t judged(const uint8_t *record, size_t n, uint64_t *report, size_t length)
 {
     for (size_t i = 0; i < ROOM; i++)
         report[i] = LEFT;
-    uint32_t result = joint_judge(record, n, report, length);
-    for (size_t i = length < JOINT_FIELDS ? 0 : JOINT_FIELDS; i < ROOM; i++)
+    uint32_t result = negwishal_judge(record, n, report, length);
+    for (size_t i = length < NEGWISHAL_FIELDS ? 0 : NEGWISHAL_FIELDS; i < ROOM; i++)
         expect("a number that must stay", report[i], LEFT, LEFT);
     return result;
 }
@@ -47,8 +47,8 @@ static uint32_t judged(const uint8_t *record, size_t n, uint64_t *report, size_t
 /* The places as numbers, not by their names: verdict, number, member, first, second, use, capacity, share. */
 static void fields(const char *name, const uint64_t *r, const uint64_t low[8], const uint64_t high[8])
 {
-    static const int named[8] = {JOINT_VERDICT, JOINT_NUMBER, JOINT_MEMBER, JOINT_FIRST,
-                                 JOINT_SECOND, JOINT_USE, JOINT_CAPACITY, JOINT_SHARE};
+    static const int named[8] = {NEGWISHAL_VERDICT, NEGWISHAL_NUMBER, NEGWISHAL_MEMBER, NEGWISHAL_FIRST,
+                                 NEGWISHAL_SECOND, NEGWISHAL_USE, NEGWISHAL_CAPACITY, NEGWISHAL_SHARE};
     char what[80];
     for (int i = 0; i < 8; i++) {
         snprintf(what, sizeof what, "%s, field %d", name, i);
@@ -76,12 +76,12 @@ int main(int argc, char **argv)
         return 2;
     memcpy(kept, b, nb);
 
-    expect("JOINT_FIELDS", JOINT_FIELDS, 8, 8);
-    expect("JOINT_REFUSED", JOINT_REFUSED, 0, 0);
-    expect("JOINT_FITS", JOINT_FITS, 1, 1);
-    expect("JOINT_OVERLOADED", JOINT_OVERLOADED, 2, 2);
-    expect("JOINT_JUDGED", JOINT_JUDGED, 0, 0);
-    expect("JOINT_SHORT_REPORT", JOINT_SHORT_REPORT, 1, 1);
+    expect("NEGWISHAL_FIELDS", NEGWISHAL_FIELDS, 8, 8);
+    expect("NEGWISHAL_REFUSED", NEGWISHAL_REFUSED, 0, 0);
+    expect("NEGWISHAL_FITS", NEGWISHAL_FITS, 1, 1);
+    expect("NEGWISHAL_OVERLOADED", NEGWISHAL_OVERLOADED, 2, 2);
+    expect("NEGWISHAL_JUDGED", NEGWISHAL_JUDGED, 0, 0);
+    expect("NEGWISHAL_SHORT_REPORT", NEGWISHAL_SHORT_REPORT, 1, 1);
 
     for (size_t length = 0; length <= ROOM; length++) {
         uint32_t want = length < 8 ? 1 : 0;

@@ -5,7 +5,7 @@ use mathlib.Core.Bool.{Bool, true, false, cond, not, false≢true}
 use mathlib.Core.List.{List}
 use native.Mathlib.Omega.{arith}
 use native.Mathlib.Nat.{le-trans}
-use borrow.Author.Tests.{eq-eqb, ne-eqb, eqb-true, eqb-false}
+use borrow.Author.Tests.{eq-eqb, ne-eqb, eqb-true, eqb-false, le-leb, lt-leb}
 use lib.Dec.{eqb, lit≤}
 use lib.ListN.{take}
 use Rattle.strength.specs.Fraction.{_over_, whole}
@@ -26,7 +26,7 @@ use Rattle.spacing.proofs.Passing.{joint-apart, Apart}
 use Rattle.joint.specs.declared.Member.{Member}
 use Rattle.joint.specs.declared.Values.{Values}
 use Rattle.joint.specs.declared.report.Report.{Report}
-use Rattle.joint.specs.declared.report.Verdict.the-variants.{Refused}
+use Rattle.joint.specs.declared.report.Verdict.the-variants.{Fits, Overloaded, Refused}
 use Rattle.joint.specs.declared.Outcome.{Outcome}
 use Rattle.joint.specs.Layout.{valuesOf}
 use Rattle.joint.specs.Refusal.{refusalOf, refusalNumber, drillFault, spaced, fieldsWithin, noForce, outcomeOf, outcome, zeroValues}
@@ -147,7 +147,7 @@ no-place : (s : List ℕ) → Accepted s → (refusalOf s .member ≡ 0) × (ref
 unfolding outcomeOf outcome
 no-place s h =
     let k = clear s h in
-    let o = outcome-accepted s (drillFault (valuesOf s)) refl (k .number) (k .drill) in
+    let o = sym (outcome-accepted s (drillFault (valuesOf s)) refl (k .number) (k .drill)) in
     (ap (λ (r : Outcome). r .member) o, ap (λ (r : Outcome). r .first) o, ap (λ (r : Outcome). r .second) o)
 
 pub claim : (s : List ℕ) → Judged s (reportOf s)
@@ -180,6 +180,13 @@ claim s = go (eqb (refusalOf s .number) 0) refl
     go : (b : Bool) → eqb (refusalOf s .number) 0 ≡ b → Judged s (cond b (answered (valuesOf s)) (unanswered (refusalOf s)))
     go true e = yes-case (eqb-true (refusalOf s .number) 0 e)
     go false e = no-case (eqb-false (refusalOf s .number) 0 e)
+
+-- ---- the verdict
+pub fits : (U : ℕ) → U ≤ 10000 → Fits ≡ verdictOf U
+fits U h = simp (le-leb U 10000 h)
+
+pub overloaded : (U : ℕ) → 10000 < U → Overloaded ≡ verdictOf U
+overloaded U h = simp (lt-leb U 10000 h)
 
 -- ---- from the outcome of the refusals to the report
 pub judged : {s : List ℕ} {r : Report} → r ≡ reportOf s → Judged s r × (r ≡ reportOf s)

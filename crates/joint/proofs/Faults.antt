@@ -46,7 +46,7 @@ use Rattle.joint.specs.Refusal.{
   frame,
   alongs,
   acrosses,
-  zeroValues,
+  refusedBy,
   outcome,
   outcomeOf,
 }
@@ -55,7 +55,10 @@ use Rattle.joint.specs.declared.Loads.{Loads}
 use Rattle.joint.specs.declared.Positions.{Positions}
 use Rattle.joint.specs.declared.Values.{Values}
 use Rattle.joint.specs.declared.Outcome.{Outcome}
-use Rattle.joint.proofs.Stages.{first-zero, first-kept}
+use Rattle.joint.specs.Stage.{stage, stageNumber}
+use Rattle.joint.specs.declared.Stage.{Stage}
+use Rattle.joint.specs.declared.Stage.the-variants.{Refused}
+use Rattle.joint.proofs.Stages.{first-zero, first-kept, stage-refused}
 use Rattle.joint.proofs.Tests.{first-of, second-of}
 
 -- ---- what 7 and 9 leave
@@ -258,14 +261,16 @@ position-first s = of (eqb (refusalNumber s) 0) refl
         (sym (first-kept 0 (scriptTests s ++ designerTests s) (drillTests s) (eqb-false _ _ e)))
 
 -- ---- the outcome
-pub outcome-numbered : (s : List ℕ) → (refusalNumber s ≡ 0 → ⊥) → outcomeOf s ≡ record { number = refusalNumber s; member = 0; first = 0; second = 0; values = zeroValues }
+pub outcome-numbered : (s : List ℕ) {r : Stage} {n : ℕ} (m : ℕ) → r ≡ stage (refusalNumber s) → r ≡ Refused m → n ≡ stageNumber r → refusedBy (fault n 0 0 0) ≡ outcomeOf s
 unfolding outcomeOf outcome refusalOf
-outcome-numbered s h = simp (ne-eqb (refusalNumber s) 0 h)
+outcome-numbered s m e h q =
+    let g = stage-refused (refusalNumber s) m e h in
+    simp (q ∙ g .0, ne-eqb (refusalNumber s) 0 (g .1))
 
-pub outcome-fault : (s : List ℕ) (f : Fault) → f ≡ drillFault (valuesOf s) → refusalNumber s ≡ 0 → (f .number ≡ 0 → ⊥) → outcomeOf s ≡ record { number = f .number; member = f .member; first = f .first; second = f .second; values = zeroValues }
+pub outcome-fault : (s : List ℕ) (f : Fault) → f ≡ drillFault (valuesOf s) → refusalNumber s ≡ 0 → (f .number ≡ 0 → ⊥) → refusedBy f ≡ outcomeOf s
 unfolding outcomeOf outcome refusalOf
 outcome-fault s f e h g = simp (h, ← e, ne-eqb (f .number) 0 g)
 
-pub outcome-accepted : (s : List ℕ) (f : Fault) → f ≡ drillFault (valuesOf s) → refusalNumber s ≡ 0 → f .number ≡ 0 → outcomeOf s ≡ record { number = 0; member = 0; first = 0; second = 0; values = valuesOf s }
+pub outcome-accepted : (s : List ℕ) (f : Fault) → f ≡ drillFault (valuesOf s) → refusalNumber s ≡ 0 → f .number ≡ 0 → record { number = 0; member = 0; first = 0; second = 0; values = valuesOf s } ≡ outcomeOf s
 unfolding outcomeOf outcome refusalOf
 outcome-accepted s f e h g = simp (h, drill-none (valuesOf s) (ap (λ (z : Fault). z .number) (sym e) ∙ g))

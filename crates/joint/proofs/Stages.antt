@@ -4,21 +4,20 @@ use native.Mathlib.Omega.{arith}
 use native.Mathlib.Nat.{pos-of-ne-zero, not-suc-le-zero}
 use mathlib.Core.Path.{_≡_, refl, sym, ap, _∙_}
 use mathlib.Core.List.{List, [], _∷_, _++_}
-use mathlib.Core.Bool.{Bool, true, false, cond, not, _&&_}
+use mathlib.Core.Bool.{Bool, true, false, false≢true, cond, not, _&&_}
 use lib.Dec.{eqb, ltb, leb}
 use lib.ListN.{length, drop, length-drop}
 use lib.Seq.{length-take-le}
-use borrow.Author.Tests.{ltb-false, leb-true, eqb-true, eqb-false, not-true, not-false}
-use Rattle.joint.specs.Layout.{u8At, pairOffset, pairLength, pairSum, partOfPair, kindOfPair, pairOfKind, partOfKind, valuesOf}
-use Rattle.joint.specs.Refusal.{refusal1, refusal2, refusal3, refusal4, refusal5, refusal6, pairFrom, positionsLength, oneIf, scriptTests, designerTests, firstFrom, refusalNumber, zeroValues, answer, readingOf}
-use Rattle.joint.specs.Stage.{stage, stageNumber, pairStage, valueTests, Chained, Sized}
-use Rattle.joint.specs.declared.Pair.{Pair}
+use borrow.Author.Tests.{le-ltb, lt-ltb, ltb-false, leb-true, eq-eqb, eqb-true, eqb-false, not-true, not-false}
+use Rattle.joint.specs.Layout.{u8At, version, pairCount, pairOffset, pairLength, pairSum, partOfPair, kindOfPair, pairOfKind, partOfKind, valuesOf}
+use Rattle.joint.specs.Refusal.{refusal1, refusal2, refusal3, refusal4, refusal5, refusal6, pairFrom, positionsLength, oneIf, once, fieldsWithin, emptyOutlines, noForce, scriptTests, designerTests, firstFrom, refusalNumber}
+use Rattle.joint.specs.Stage.{stage, stageNumber, headerTests, pairStage, valueTests, weightOf, Chained, Sized}
 use Rattle.joint.specs.declared.Values.{Values}
-use Rattle.joint.specs.declared.Reading.{Reading}
+use Rattle.joint.specs.declared.Pair.{Pair}
 use Rattle.joint.specs.declared.Pair.the-variants.{End, Broken}
 use Rattle.joint.specs.declared.Stage.{Stage}
 use Rattle.joint.specs.declared.Stage.the-variants.{Passed, Refused}
-use Rattle.joint.proofs.Tests.{first-of, second-of}
+use Rattle.joint.proofs.Tests.{failed, held, equal, unequal, first-of, second-of}
 
 -- ---- the first test that holds
 first-passed : (k n : ℕ) (xs ys : List Bool) → stage (firstFrom (suc k) xs) ≡ Passed → length xs + suc k ≡ n → firstFrom (suc k) (xs ++ ys) ≡ firstFrom n ys
@@ -63,26 +62,38 @@ first-kept k [] ys h = absurd (h refl)
 first-kept k (true ∷ xs) ys h = refl
 first-kept k (false ∷ xs) ys h = first-kept (suc k) xs ys h
 
--- what a stage that refused makes of the reading
-pub answer-refused : {r : Stage} (n m : ℕ) (v : Values) → r ≡ stage n → r ≡ Refused m → answer n v ≡ record { number = stageNumber r; values = zeroValues }
-unfolding answer stage stageNumber
-answer-refused n m v e h = of n (sym e ∙ h) ∙ ap (λ (k : ℕ). record { number = k; values = zeroValues }) (sym (ap stageNumber h))
+-- the number behind a stage's answer
+pub stage-refused : {r : Stage} (n m : ℕ) → r ≡ stage n → r ≡ Refused m → (stageNumber r ≡ n) × (n ≡ 0 → ⊥)
+unfolding stage stageNumber
+stage-refused zero m e h = absurd (false≢true (of (sym e ∙ h)))
   where
-    of : (n : ℕ) → stage n ≡ Refused m → answer n v ≡ record { number = m; values = zeroValues }
-    of zero h = cc
-    of (suc k) h = ap (λ (j : ℕ). record { number = j; values = zeroValues }) (cc)
+    of : Passed ≡ Refused m → false ≡ true
+    of h = cc
+stage-refused (suc n) m e h = (ap stageNumber e, λ z. omega arith)
 
-pub answer-passed : (n : ℕ) (v : Values) → stage n ≡ Passed → answer n v ≡ record { number = 0; values = v }
-unfolding answer stage
-answer-passed zero v h = refl
-answer-passed (suc n) v h = cc
+pub stage-passed : {r : Stage} (n : ℕ) → r ≡ stage n → r ≡ Passed → n ≡ 0
+unfolding stage
+stage-passed zero e h = refl
+stage-passed (suc n) e h = cc
+
+-- ---- refusals 1 to 3, one after the other
+pub header-short : (s : List ℕ) → length s < 20 → Refused 1 ≡ stage (firstFrom 1 (headerTests s))
+unfolding refusal1 firstFrom stage
+header-short s l = simp (lt-ltb (length s) 20 l)
+
+pub header-version : (s : List ℕ) {n : ℕ} → 20 ≤ length s → n ≡ version s → (n ≡ 1 → ⊥) → Refused 2 ≡ stage (firstFrom 1 (headerTests s))
+unfolding refusal1 refusal2 firstFrom stage
+header-version s l e h = simp (le-ltb (length s) 20 l, unequal e h)
+
+pub header-count : (s : List ℕ) {n m : ℕ} → 20 ≤ length s → n ≡ version s → n ≡ 1 → m ≡ pairCount s → (m ≡ 4 → ⊥) → Refused 3 ≡ stage (firstFrom 1 (headerTests s))
+unfolding refusal1 refusal2 refusal3 firstFrom stage
+header-count s l e h f g = simp (le-ltb (length s) 20 l, equal e h, unequal f g)
+
+pub header-right : (s : List ℕ) {n m : ℕ} → 20 ≤ length s → n ≡ version s → n ≡ 1 → m ≡ pairCount s → m ≡ 4 → Passed ≡ stage (firstFrom 1 (headerTests s))
+unfolding refusal1 refusal2 refusal3 firstFrom stage
+header-right s l e h f g = simp (le-ltb (length s) 20 l, equal e h, equal f g)
 
 -- ---- refusals 1 to 4
-pub one-at-most : {r : ℕ} (b : Bool) → r ≡ oneIf b → r ≤ 1
-unfolding oneIf
-one-at-most true e = omega arith
-one-at-most false e = omega arith
-
 -- a pair's answer, by the pair's test at its true start
 pub pair-broken : {r : Pair} (s : List ℕ) (k : ℕ) {at start : ℕ} → at ≡ start → r ≡ pairStage s k at → r ≡ Broken → pairFrom s k start ≡ false
 unfolding pairStage
@@ -209,38 +220,107 @@ layout-right s h =
     let h6 = passed-tail 4 (refusal5 s) _ (passed-tail 3 (refusal4 s) _ h4) in
     (chained s (long-of s (passed-head 0 (refusal1 s) _ h)) (passed-head 3 (refusal4 s) _ h4), sized s (passed-head 5 (refusal6 s) _ h6))
 
--- ---- the whole reading, by what its two stages answered
-module _ (s : List ℕ) {l : Stage} (e : l ≡ stage (firstFrom 1 (scriptTests s))) where
-  pub reading-refused : (m : ℕ) → l ≡ Refused m → readingOf s ≡ record { number = stageNumber l; values = zeroValues }
-  unfolding readingOf refusalNumber
-  reading-refused m h =
-      answer-refused (firstFrom 1 (scriptTests s ++ designerTests s)) m (valuesOf s)
-      (stage-stop 0 m (scriptTests s) (designerTests s) e h)
-      h
+-- ---- refusal 5
+one-at-most : (b : Bool) → oneIf b ≤ 1
+unfolding oneIf
+one-at-most true = omega arith
+one-at-most false = omega arith
 
-  module _ (h : l ≡ Passed) {r : Stage} (q : r ≡ stage (firstFrom 7 (valueTests (valuesOf s)))) where
-    whole : r ≡ stage (firstFrom 1 (scriptTests s ++ designerTests s))
-    whole = q ∙ sym (stage-on 0 7 (scriptTests s) (designerTests s) (sym e ∙ h) refl)
+-- how often a kind occurs
+count : List ℕ → ℕ → ℕ
+count s kind =
+    oneIf (eqb (kindOfPair s 1) kind) + oneIf (eqb (kindOfPair s 2) kind)
+    + oneIf (eqb (kindOfPair s 3) kind) + oneIf (eqb (kindOfPair s 4) kind)
 
-    pub reading-outside : (m : ℕ) → r ≡ Refused m → readingOf s ≡ record { number = stageNumber r; values = zeroValues }
-    unfolding readingOf refusalNumber
-    reading-outside m g =
-        answer-refused (firstFrom 1 (scriptTests s ++ designerTests s)) m (valuesOf s) whole g
+count-most : (s : List ℕ) (kind : ℕ) → count s kind ≤ 4
+unfolding count
+count-most s kind =
+    omega (
+      arith,
+      one-at-most (eqb (kindOfPair s 1) kind),
+      one-at-most (eqb (kindOfPair s 2) kind),
+      one-at-most (eqb (kindOfPair s 3) kind),
+      one-at-most (eqb (kindOfPair s 4) kind),
+    )
 
-    pub reading-accepted : r ≡ Passed → readingOf s ≡ record { number = 0; values = valuesOf s }
-    unfolding readingOf refusalNumber
-    reading-accepted g =
-        answer-passed (firstFrom 1 (scriptTests s ++ designerTests s)) (valuesOf s) (sym whole ∙ g)
+pub weight-most : (kind : ℕ) → weightOf kind ≤ 156
+unfolding weightOf
+weight-most kind =
+    omega (
+      arith,
+      one-at-most (eqb kind 1),
+      one-at-most (eqb kind 2),
+      one-at-most (eqb kind 3),
+      one-at-most (eqb kind 4),
+    )
 
--- the number and the values of a reading
-pub reading-number : (s : List ℕ) → readingOf s .number ≡ refusalNumber s
-unfolding readingOf answer
-reading-number s = of (refusalNumber s)
+pub weights : List ℕ → ℕ
+weights s =
+    weightOf (kindOfPair s 1) + weightOf (kindOfPair s 2) + weightOf (kindOfPair s 3) + weightOf (kindOfPair s 4)
+
+pub weights-of : (s : List ℕ) {a b c d : ℕ} → a ≡ weightOf (kindOfPair s 1) → b ≡ weightOf (kindOfPair s 2) → c ≡ weightOf (kindOfPair s 3) → d ≡ weightOf (kindOfPair s 4) → a + b + c + d ≡ weights s
+unfolding weights
+weights-of s e f g h = simp (e, f, g, h)
+
+-- the sum of the weights, digit by digit
+digits : (s : List ℕ) → weights s ≡ count s 1 + 5 * count s 2 + 25 * count s 3 + 125 * count s 4
+unfolding weights weightOf count
+digits s = omega arith
+
+pub kinds-once : (s : List ℕ) → weights s ≡ 156 → refusal5 s ≡ false
+unfolding refusal5 once count
+kinds-once s h =
+    let e = digits s in
+    let m1 = count-most s 1 in
+    let m2 = count-most s 2 in
+    let m3 = count-most s 3 in
+    let m4 = count-most s 4 in
+    simp (
+      eq-eqb (count s 1) 1 (omega (arith, e, h, m1, m2, m3, m4)),
+      eq-eqb (count s 2) 1 (omega (arith, e, h, m1, m2, m3, m4)),
+      eq-eqb (count s 3) 1 (omega (arith, e, h, m1, m2, m3, m4)),
+      eq-eqb (count s 4) 1 (omega (arith, e, h, m1, m2, m3, m4)),
+    )
+
+pub kinds-astray : (s : List ℕ) → (weights s ≡ 156 → ⊥) → refusal5 s ≡ true
+unfolding refusal5 once count
+kinds-astray s h = go (once s 1 && once s 2 && once s 3 && once s 4) refl
   where
-    of : (n : ℕ) → answer n (valuesOf s) .number ≡ n
-    of zero = refl
-    of (suc n) = refl
+    go : (b : Bool) → (once s 1 && once s 2 && once s 3 && once s 4) ≡ b → not b ≡ true
+    go false e = refl
+    go true e =
+        let c1 = eqb-true (count s 1) 1 (first-of _ _ (first-of _ _ (first-of _ _ e))) in
+        let c2 = eqb-true (count s 2) 1 (second-of (once s 1) _ (first-of _ _ (first-of _ _ e))) in
+        let c3 = eqb-true (count s 3) 1 (second-of (once s 1 && once s 2) _ (first-of _ _ e)) in
+        let c4 = eqb-true (count s 4) 1 (second-of (once s 1 && once s 2 && once s 3) _ e) in
+        absurd (h (omega (arith, digits s, c1, c2, c3, c4)))
 
-pub reading-values : (s : List ℕ) → refusalNumber s ≡ 0 → readingOf s .values ≡ valuesOf s
-unfolding readingOf answer
-reading-values s h = simp h
+-- ---- refusals 7 to 9, one after the other
+module _ (v : Values) {f : Bool} (e : f ≡ fieldsWithin v) where
+  pub values-outside : not f ≡ true → Refused 7 ≡ stage (firstFrom 7 (valueTests v))
+  unfolding firstFrom stage
+  values-outside h = simp (failed e h)
+
+  module _ (h : not f ≡ false) {o : Bool} (q : o ≡ emptyOutlines (v .members)) where
+    pub values-empty : o ≡ true → Refused 8 ≡ stage (firstFrom 7 (valueTests v))
+    unfolding firstFrom stage
+    values-empty g = simp (held e h, sym q ∙ g)
+
+    module _ (g : o ≡ false) {n : Bool} (p : n ≡ noForce (v .loads)) where
+      pub values-unloaded : n ≡ true → Refused 9 ≡ stage (firstFrom 7 (valueTests v))
+      unfolding firstFrom stage
+      values-unloaded k = simp (held e h, sym q ∙ g, sym p ∙ k)
+
+      pub values-right : n ≡ false → Passed ≡ stage (firstFrom 7 (valueTests v))
+      unfolding firstFrom stage
+      values-right k = simp (held e h, sym q ∙ g, sym p ∙ k)
+
+-- ---- the number of refusals 1 to 9, by what the two stages of reading answered
+module _ (s : List ℕ) {l : Stage} (e : l ≡ stage (firstFrom 1 (scriptTests s))) where
+  pub number-layout : (m : ℕ) → l ≡ Refused m → l ≡ stage (refusalNumber s)
+  unfolding refusalNumber
+  number-layout m h = stage-stop 0 m (scriptTests s) (designerTests s) e h
+
+  pub number-values : {r : Stage} → l ≡ Passed → r ≡ stage (firstFrom 7 (valueTests (valuesOf s))) → r ≡ stage (refusalNumber s)
+  unfolding refusalNumber
+  number-values h q = q ∙ sym (stage-on 0 7 (scriptTests s) (designerTests s) (sym e ∙ h) refl)

@@ -5,5 +5,4 @@ pub mod Stage
 pub mod Use
 pub mod Claim
 pub mod Starred
-pub mod Export
 pub mod Workings

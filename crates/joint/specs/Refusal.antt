@@ -15,7 +15,6 @@ use Rattle.joint.specs.declared.Dowel.{Dowel}
 use Rattle.joint.specs.declared.Positions.{Positions}
 use Rattle.joint.specs.declared.Loads.{Loads}
 use Rattle.joint.specs.declared.Values.{Values}
-use Rattle.joint.specs.declared.Reading.{Reading}
 use Rattle.joint.specs.declared.Outcome.{Outcome}
 use Rattle.spacing.specs.declared.verdict.Member.{Member as Spaced}
 use Rattle.spacing.specs.declared.verdict.Frame.{Frame}
@@ -218,7 +217,7 @@ drillFault v =
 unfoldable pub refusalOf : List ℕ → Fault
 refusalOf s = cond (eqb (refusalNumber s) 0) (drillFault (valuesOf s)) (fault (refusalNumber s) 0 0 0)
 
--- ---- what reading answers: number 0 and the values, or the refusal's number with every value 0
+-- ---- what reading answers: number 0 and the values, or the refusal with its place and every value 0
 abbrev pub zeroOutline : Outline
 zeroOutline = record { x0 = pos 0; y0 = pos 0; x1 = pos 0; y1 = pos 0 }
 
@@ -234,15 +233,10 @@ zeroValues =
       loads = record { «service_class» = 0; duration = 0; fx = pos 0; fy = pos 0 };
     }
 
-unfoldable pub answer : ℕ → Values → Reading
-answer zero v = record { number = 0; values = v }
-answer (suc k) v = record { number = suc k; values = zeroValues }
+abbrev pub refusedBy : Fault → Outcome
+refusedBy f =
+    record { number = f .number; member = f .member; first = f .first; second = f .second; values = zeroValues }
 
--- after refusals 1 to 9
-unfoldable pub readingOf : List ℕ → Reading
-readingOf s = answer (refusalNumber s) (valuesOf s)
-
--- after all twelve
 unfoldable pub outcome : Fault → Values → Outcome
 outcome f v =
     record {

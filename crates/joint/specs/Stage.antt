@@ -1,12 +1,13 @@
 -- What the stages of reading hand to one another, by the tests of `Refusal`: the case of the enum for each number, and the facts that a
--- later stage asks. Nobody needs to believe this: `read` is equal to `readingOf`.
+-- later stage asks. Nobody needs to believe this: `refusal` is equal to `outcomeOf`.
 use Prim.Native.Nat.{ℕ, zero, suc, _+_, _*_, _≤_, _<_}
 use mathlib.Core.Path.{_≡_}
 use mathlib.Core.List.{List, [], _∷_}
 use mathlib.Core.Bool.{Bool, cond, not}
+use lib.Dec.{eqb}
 use lib.ListN.{length}
 use Rattle.joint.specs.Layout.{u8At, pairLength, pairSum, partOfKind}
-use Rattle.joint.specs.Refusal.{refusal1, refusal2, refusal3, pairFrom, fieldsWithin, emptyOutlines, noForce}
+use Rattle.joint.specs.Refusal.{refusal1, refusal2, refusal3, oneIf, pairFrom, fieldsWithin, emptyOutlines, noForce}
 use Rattle.joint.specs.declared.Pair.{Pair}
 use Rattle.joint.specs.declared.Pair.the-variants.{End, Broken}
 use Rattle.joint.specs.declared.Values.{Values}
@@ -34,6 +35,11 @@ valueTests v = not (fieldsWithin v) ∷ emptyOutlines (v .members) ∷ noForce (
 -- a pair that starts where the one before ends, and has bytes: where it ends
 unfoldable pub pairStage : List ℕ → ℕ → ℕ → Pair
 pairStage s k start = cond (pairFrom s k start) (End (pairSum s k)) Broken
+
+-- a kind as a digit to the base 5
+unfoldable pub weightOf : ℕ → ℕ
+weightOf kind =
+    oneIf (eqb kind 1) + 5 * oneIf (eqb kind 2) + 25 * oneIf (eqb kind 3) + 125 * oneIf (eqb kind 4)
 
 -- what refusals 1 to 4 leave: pairs 1 to 4 are there and name stretches of the record
 pub record Chained (s : List ℕ) : Type 0 where

@@ -6,10 +6,9 @@ ghost use mathlib.Core.Path.{_≡_};
 ghost use mathlib.Core.List.{[], _∷_};
 ghost use Prim.Native.Nat.{_+_, _≤_, _<_};
 ghost use lib.ListN.{length};
-ghost use lib.Dec.{eqb};
 ghost use Rattle.joint.specs.Layout.{u8At, partOfPair, kindOfPair, pairOfKind, partOfKind};
-ghost use Rattle.joint.specs.Refusal.{refusal4, refusal5, refusal6, oneIf, once, positionsLength, firstFrom, scriptTests};
-ghost use Rattle.joint.specs.Stage.{stage, headerTests, pairStage, Chained};
+ghost use Rattle.joint.specs.Refusal.{refusal4, refusal5, refusal6, positionsLength, firstFrom, scriptTests};
+ghost use Rattle.joint.specs.Stage.{stage, headerTests, pairStage, weightOf, Chained};
 
 // Version, number of pairs and four pairs.
 const HEADER_BYTES: usize = 20;
@@ -93,21 +92,17 @@ fn kind_of_pair(bytes: &[u8], k: usize) -> u8
     part[0]
 }
 
-fn one_if(a: u8, b: u8) -> u8
-    ensures { λ r. ⌜ r ≡ oneIf (eqb a b) ⌝ }
+// Digits to the base 5, one a kind: four parts make 1111 only where each kind is there once.
+fn weight(kind: u8) -> u16
+    ensures { λ r. ⌜ r ≡ weightOf kind ⌝ }
 {
-    if a == b { 1 } else { 0 }
-}
-
-fn is_once(bytes: &[u8], kind: u8) -> bool
-    requires { ⌜ Chained (now bytes) ⌝ }
-    ensures { λ r. ⌜ r ≡ once (now (bytes .entry)) kind ⌝ }
-{
-    let first = one_if(kind_of_pair(bytes, 1), kind);
-    let second = one_if(kind_of_pair(bytes, 2), kind);
-    let third = one_if(kind_of_pair(bytes, 3), kind);
-    let fourth = one_if(kind_of_pair(bytes, 4), kind);
-    first + second + third + fourth == 1
+    match kind {
+        1 => 1,
+        2 => 5,
+        3 => 25,
+        4 => 125,
+        _ => 0,
+    }
 }
 
 // Refusal 5.
@@ -115,16 +110,11 @@ fn check_kinds(bytes: &[u8]) -> Stage
     requires { ⌜ Chained (now bytes) ⌝ }
     ensures { λ r. ⌜ r ≡ stage (firstFrom 5 (refusal5 (now (bytes .entry)) ∷ [])) ⌝ }
 {
-    if !is_once(bytes, 1) {
-        return Stage::Refused(5);
-    }
-    if !is_once(bytes, 2) {
-        return Stage::Refused(5);
-    }
-    if !is_once(bytes, 3) {
-        return Stage::Refused(5);
-    }
-    if !is_once(bytes, 4) {
+    let first = weight(kind_of_pair(bytes, 1));
+    let second = weight(kind_of_pair(bytes, 2));
+    let third = weight(kind_of_pair(bytes, 3));
+    let fourth = weight(kind_of_pair(bytes, 4));
+    if first + second + third + fourth != 156 {
         return Stage::Refused(5);
     }
     Stage::Passed

@@ -1,13 +1,13 @@
 // Joint records: one is read from bytes, or refused (01, 'The record' and 'Who causes which refusal').
 ghost use mathlib.Core.Path.{_≡_};
-ghost use Rattle.joint.specs.Refusal.{readingOf, outcomeOf, zeroValues};
+ghost use Rattle.spacing.specs.Verdict.{fault};
+ghost use Rattle.joint.specs.Refusal.{refusedBy, outcomeOf};
 ghost use Rattle.joint.specs.Stage.{stageNumber};
-ghost use Rattle.joint.specs.Claim.{Judged, InputJudged};
-ghost use Rattle.joint.specs.Workings.{reportOf, inputReport};
+ghost use Rattle.joint.specs.Claim.{Judged};
+ghost use Rattle.joint.specs.Workings.{reportOf};
 
 pub mod demand;
 mod drill;
-pub mod exports;
 mod fields;
 mod figures;
 mod layout;
@@ -72,12 +72,6 @@ pub struct Values {
     pub loads: Loads,
 }
 
-// The number of a refusal and values that are all 0; or the number 0 and the record's values.
-pub struct Reading {
-    pub number: u8,
-    pub values: Values,
-}
-
 // A refusal with its place, and values that are all 0; or number and place 0 and the record's values.
 pub struct Outcome {
     pub number: u8,
@@ -108,10 +102,11 @@ fn number_of(stage: Stage) -> u8
     }
 }
 
-fn no_values() -> Values
-    ensures { λ r. ⌜ r ≡ zeroValues ⌝ }
+// A refusal with its place.
+fn refused(number: u8, member: u8, first: u8, second: u8) -> Outcome
+    ensures { λ r. ⌜ r ≡ refusedBy (fault number member first second) ⌝ }
 {
-    let member = Member {
+    let nothing = Member {
         class: 0,
         grain: 0,
         thickness: 0,
@@ -122,76 +117,52 @@ fn no_values() -> Values
             y1: 0,
         },
     };
-    Values {
-        members: Members {
-            planes: 0,
-            member1: member,
-            member2: member,
-        },
-        dowel: Dowel {
-            diameter: 0,
-            steel: 0,
-        },
-        positions: Positions {
-            n: 0,
-            x: [0i32; MOST_DOWELS],
-            y: [0i32; MOST_DOWELS],
-        },
-        loads: Loads {
-            service_class: 0,
-            duration: 0,
-            fx: 0,
-            fy: 0,
+    Outcome {
+        number,
+        member,
+        first,
+        second,
+        values: Values {
+            members: Members {
+                planes: 0,
+                member1: nothing,
+                member2: nothing,
+            },
+            dowel: Dowel {
+                diameter: 0,
+                steel: 0,
+            },
+            positions: Positions {
+                n: 0,
+                x: [0i32; MOST_DOWELS],
+                y: [0i32; MOST_DOWELS],
+            },
+            loads: Loads {
+                service_class: 0,
+                duration: 0,
+                fx: 0,
+                fy: 0,
+            },
         },
     }
 }
 
-// Reads a record: refusals 1 to 9, or its values.
-pub fn read(bytes: &[u8]) -> Reading
-    ensures { λ r. ⌜ r ≡ readingOf (now (bytes .entry)) ⌝ }
+// Reads a record and judges it by all twelve refusals: the first that applies, with its place, or the record's values.
+pub fn refusal(bytes: &[u8]) -> Outcome
+    ensures { λ r. ⌜ r ≡ outcomeOf (now (bytes .entry)) ⌝ }
 {
     let layout = layout::check_layout(bytes);
     let Stage::Passed = layout else {
-        return Reading {
-            number: number_of(layout),
-            values: no_values(),
-        };
+        return refused(number_of(layout), 0, 0, 0);
     };
     let values = parts::values_of(bytes);
     let limits = limits::check_values(values);
     let Stage::Passed = limits else {
-        return Reading {
-            number: number_of(limits),
-            values: no_values(),
-        };
+        return refused(number_of(limits), 0, 0, 0);
     };
-    Reading { number: 0, values }
-}
-
-// Judges a record by all twelve refusals: the first that applies, with its place, or the record's values.
-pub fn refusal(bytes: &[u8]) -> Outcome
-    ensures { λ r. ⌜ r ≡ outcomeOf (now (bytes .entry)) ⌝ }
-{
-    let reading = read(bytes);
-    if reading.number != 0 {
-        return Outcome {
-            number: reading.number,
-            member: 0,
-            first: 0,
-            second: 0,
-            values: no_values(),
-        };
-    }
-    let values = reading.values;
     let fault = drill::first_fault(values);
     if fault.number != 0 {
-        return Outcome {
-            number: fault.number,
-            member: fault.member,
-            first: fault.first,
-            second: fault.second,
-            values: no_values(),
-        };
+        return refused(fault.number, fault.member, fault.first, fault.second);
     }
     Outcome {
         number: 0,
@@ -222,28 +193,4 @@ pub fn judge(bytes: &[u8]) -> Report
     }
     let values = outcome.values;
     figures::answer(values)
-}
-
-// The program's rule: the first `count` bytes of a buffer are judged, but where more came than the program reads, that is refusal 4
-// before any other test.
-pub fn judge_input(buffer: &[u8], count: usize, more: bool) -> Report
-    ensures { λ r. ⌜ InputJudged (now (buffer .entry)) count more r ⌝ }
-    ensures { λ r. ⌜ r ≡ inputReport (now (buffer .entry)) count more ⌝ }
-{
-    if more {
-        return Report {
-            verdict: Verdict::Refused,
-            number: 4,
-            member: 0,
-            first: 0,
-            second: 0,
-            usage: 0,
-            capacity: 0,
-            share: 0,
-        };
-    }
-    if count < buffer.len() {
-        return judge(&buffer[..count]);
-    }
-    judge(buffer)
 }

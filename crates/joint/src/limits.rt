@@ -16,13 +16,13 @@ ghost use Rattle.joint.specs.Stage.{stage, valueTests};
 fn is_between(low: u16, high: u16, n: u16) -> bool
     ensures { λ r. ⌜ r ≡ between low high n ⌝ }
 {
-    low <= n && n <= high
+    (low <= n) & (n <= high)
 }
 
 fn is_within(low: i32, high: i32, z: i32) -> bool
     ensures { λ r. ⌜ r ≡ betweenZ low high z ⌝ }
 {
-    low <= z && z <= high
+    (low <= z) & (z <= high)
 }
 
 fn is_coordinate(z: i32) -> bool
@@ -46,55 +46,31 @@ fn is_known_class(code: u8) -> bool
 fn outline_within(o: Outline) -> bool
     ensures { λ r. ⌜ r ≡ outlineWithin o ⌝ }
 {
-    if !is_coordinate(o.x0) {
-        return false;
-    }
-    if !is_coordinate(o.y0) {
-        return false;
-    }
-    if !is_coordinate(o.x1) {
-        return false;
-    }
-    is_coordinate(o.y1)
+    is_coordinate(o.x0) & is_coordinate(o.y0) & is_coordinate(o.x1) & is_coordinate(o.y1)
 }
 
 fn member_within(m: Member) -> bool
     ensures { λ r. ⌜ r ≡ memberWithin m ⌝ }
 {
-    if !is_known_class(m.class) {
-        return false;
-    }
-    if !is_between(0, 1, m.grain as u16) {
-        return false;
-    }
-    if !is_between(200, 4000, m.thickness) {
-        return false;
-    }
     let outline = m.outline;
-    outline_within(outline)
+    is_known_class(m.class)
+        & is_between(0, 1, m.grain as u16)
+        & is_between(200, 4000, m.thickness)
+        & outline_within(outline)
 }
 
 fn members_within(m: Members) -> bool
     ensures { λ r. ⌜ r ≡ membersWithin m ⌝ }
 {
-    if !is_between(1, 2, m.planes as u16) {
-        return false;
-    }
     let member1 = m.member1;
-    if !member_within(member1) {
-        return false;
-    }
     let member2 = m.member2;
-    member_within(member2)
+    is_between(1, 2, m.planes as u16) & member_within(member1) & member_within(member2)
 }
 
 fn dowel_within(w: Dowel) -> bool
     ensures { λ r. ⌜ r ≡ dowelWithin w ⌝ }
 {
-    if !is_between(6, 30, w.diameter as u16) {
-        return false;
-    }
-    is_between(1, 3, w.steel as u16)
+    is_between(6, 30, w.diameter as u16) & is_between(1, 3, w.steel as u16)
 }
 
 // The first n of the numbers are coordinates.
@@ -123,51 +99,36 @@ fn positions_within(p: Positions) -> bool
         return false;
     }
     let x = p.x;
-    if !are_coordinates(x, n) {
-        return false;
-    }
     let y = p.y;
-    are_coordinates(y, n)
+    are_coordinates(x, n) & are_coordinates(y, n)
 }
 
 fn loads_within(l: Loads) -> bool
     ensures { λ r. ⌜ r ≡ loadsWithin l ⌝ }
 {
-    if !is_between(1, 3, l.service_class as u16) {
-        return false;
-    }
-    if !is_between(1, 5, l.duration as u16) {
-        return false;
-    }
-    if !is_force(l.fx) {
-        return false;
-    }
-    is_force(l.fy)
+    is_between(1, 3, l.service_class as u16)
+        & is_between(1, 5, l.duration as u16)
+        & is_force(l.fx)
+        & is_force(l.fy)
 }
 
 fn outline_empty(o: Outline) -> bool
     ensures { λ r. ⌜ r ≡ outlineEmpty o ⌝ }
 {
-    o.x1 <= o.x0 || o.y1 <= o.y0
+    (o.x1 <= o.x0) | (o.y1 <= o.y0)
 }
 
 fn fields_within(v: Values) -> bool
     ensures { λ r. ⌜ r ≡ fieldsWithin v ⌝ }
 {
     let members = v.members;
-    if !members_within(members) {
-        return false;
-    }
     let dowel = v.dowel;
-    if !dowel_within(dowel) {
-        return false;
-    }
     let positions = v.positions;
-    if !positions_within(positions) {
-        return false;
-    }
     let loads = v.loads;
-    loads_within(loads)
+    members_within(members)
+        & dowel_within(dowel)
+        & positions_within(positions)
+        & loads_within(loads)
 }
 
 fn has_empty_outline(m: Members) -> bool
@@ -175,18 +136,15 @@ fn has_empty_outline(m: Members) -> bool
 {
     let member1 = m.member1;
     let outline1 = member1.outline;
-    if outline_empty(outline1) {
-        return true;
-    }
     let member2 = m.member2;
     let outline2 = member2.outline;
-    outline_empty(outline2)
+    outline_empty(outline1) | outline_empty(outline2)
 }
 
 fn has_no_force(l: Loads) -> bool
     ensures { λ r. ⌜ r ≡ noForce l ⌝ }
 {
-    l.fx == 0 && l.fy == 0
+    (l.fx == 0) & (l.fy == 0)
 }
 
 // Refusals 7 to 9.

@@ -10,7 +10,7 @@ refusal-requires : tie.Need-refusal-requires
 refusal-requires c κs = search needs
 
 returns : tie.Need-returns
-returns c = judged (report-refused (c .before .before .before .before .args .bytes .now) (c .before .before .refusal .result) (c .before .before .refusal .ensures) (c .if1 .taken))
+returns c = judged (report-refused (c .before .before .before .before .args .bytes .now) (c .before .before .refusal .result) (c .before .before .refusal .ensures) (λ h. omega (arith, c .if1 .taken)))
 
 answer-requires : tie.Need-answer-requires
 answer-requires c κs = outcome-passed (c .before .before .before .before .before .args .bytes .now) (c .before .before .before .refusal .result) (c .before .before .before .refusal .ensures) (omega (arith, c .before .if1 .left))

@@ -2,11 +2,11 @@
 -- Assumes nothing.
 use Prim.Native.Nat.{_-_}
 use borrow.Author.Needs.{needs}
-use lib.IntN.{negsuc}
-use mathlib.Core.Path.{_∙_}
+use lib.IntN.{ℤ, negsuc}
+use mathlib.Core.Path.{_∙_, ap, sym, subst}
 use mir.Facts.{toZ-ofZ}
 use mir.Syntax.{w32}
-use mir.Val.{SFits}
+use mir.Val.{SFits, ofZ, toZ}
 use native.Mathlib.Omega.{arith}
 use Rattle.joint.proofs.Signed.{minus-one-less, signed-high, signed-low}
 use Rattle.joint.proofs.fields.signed.Statement.{statement}
@@ -23,7 +23,8 @@ cast-result-2 c = search needs
 
 sub-result-2 : tie.Need-sub-result-2
 sub-result-2 c =
-    rw (minus-one-less (4294967295 - c .before .args .n) (omega arith)) (record { sfits = omega arith })
+    subst (λ (z : ℤ). SFits w32 z) (sym (minus-one-less (4294967295 - c .before .args .n) (omega arith)))
+    (record { sfits = omega arith })
 
 returns : tie.Need-returns
 returns c =
@@ -33,8 +34,9 @@ returns-2 : tie.Need-returns-2
 returns-2 c =
     let n = c .before .args .n in
     let f : SFits w32 (negsuc (4294967295 - n)) = record { sfits = omega arith } in
-    rw (minus-one-less (4294967295 - n) (omega arith))
-    (toZ-ofZ f ∙ signed-high n (c .if1 .left) (omega arith))
+    ap (λ (z : ℤ). toZ w32 (ofZ w32 z)) (minus-one-less (4294967295 - n) (omega arith))
+    ∙ toZ-ofZ f
+    ∙ signed-high n (c .if1 .left) (omega arith)
 
 pub signed-spec : {M : Type 1} → statement M
 signed-spec =

@@ -11,7 +11,7 @@ shared-slice-read-result c = search needs
 
 cast-result : tie.Need-cast-result
 cast-result c =
-    omega (arith, c .shared-slice-known .given (c .before .args .i))
+    omega (arith, c .shared-slice-known .given (c .before .args .i), c .shared-slice-known .given (c .before .args .i + 1))
 
 add-result : tie.Need-add-result
 add-result c = search needs
@@ -21,18 +21,18 @@ shared-slice-read-result-2 c = search needs
 
 cast-result-2 : tie.Need-cast-result-2
 cast-result-2 c =
-    omega (arith, c .shared-slice-known2 .given (c .before .before .args .i + 1))
+    omega (arith, c .shared-slice-known2 .given (c .before .before .args .i), c .shared-slice-known2 .given (c .before .before .args .i + 1))
 
 mul-result : tie.Need-mul-result
 mul-result c =
-    omega (arith, c .shared-slice-known2 .given (c .before .before .args .i + 1))
+    omega (arith, c .shared-slice-known2 .given (c .before .before .args .i), c .shared-slice-known2 .given (c .before .before .args .i + 1))
 
 add-result-2 : tie.Need-add-result-2
 add-result-2 c =
     omega (arith, c .shared-slice-known2 .given (c .before .before .args .i), c .shared-slice-known2 .given (c .before .before .args .i + 1))
 
 returns : tie.Need-returns
-returns c = search needs
+returns c = omega arith
 
 pub u16-at-spec : {M : Type 1} → statement M
 u16-at-spec =

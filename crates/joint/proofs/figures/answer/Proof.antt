@@ -1,7 +1,7 @@
 -- `figures::answer` meets its contract.
 use native.Mathlib.Omega.{arith}
 use borrow.Author.Needs.{needs}
-use mathlib.Core.Path.{_∙_, ap, ap₂, subst⁻¹}
+use mathlib.Core.Path.{_≡_, _∙_, ap, ap₂, subst⁻¹}
 use Prim.Native.Nat.{ℕ, _/_, min}
 use Rattle.spacing.specs.declared.share.Shares.{Shares}
 use Rattle.joint.specs.Claim.{verdictOf}
@@ -39,6 +39,7 @@ returns c =
     let first = ap (λ (s : Shares). s .side) (c .before .before .before .before .shares-of .ensures) in
     let second = ap (λ (s : Shares). s .middle) (c .before .before .before .before .shares-of .ensures) in
     let u = c .before .before .use-ten-thousandths .ensures ∙ ap useOf (demand-path (c .before .before .before .before .before .before .args .v) (c .before .before .before .before .before .capacity-of .result) (c .before .before .before .before .shares-of .result .side) (c .before .before .before .before .shares-of .result .middle) (c .before .before .before .demand-of .result) (c .before .before .before .demand-of .ensures) (c .before .before .before .before .before .capacity-of .ensures) first second) in
+    let l : c .lesser .result ≡ min (c .before .before .before .before .shares-of .result .side) (c .before .before .before .before .shares-of .result .middle) = c .lesser .ensures in
     λ i. record {
       verdict = (c .before .verdict-of .ensures ∙ ap verdictOf u) i;
       number = 0;
@@ -47,7 +48,7 @@ returns c =
       second = 0;
       usage = u i;
       capacity = ap (λ (z : ℕ). z / 1000) (c .before .before .before .before .before .capacity-of .ensures) i;
-      share = (c .lesser .ensures ∙ ap₂ min first second) i;
+      share = (l ∙ ap₂ min first second) i;
     }
 
 pub answer-spec : {M : Type 1} → statement M

@@ -1,6 +1,7 @@
 -- `joint::layout::check_lengths` meets its contract: each return names the tests before it.
 -- Assumes nothing.
 use borrow.Author.Needs.{needs}
+use native.Mathlib.Omega.{arith}
 use lib.ListN.{length}
 use mathlib.Core.Path.{ap}
 use Rattle.joint.proofs.Tests.{equal, failed, held, unequal}
@@ -15,7 +16,7 @@ part-of-kind-requires c κs = search needs
 returns : tie.Need-returns
 unfolding refusal6 firstFrom stage
 returns c =
-    simp (unequal (ap length (c .before .part-of-kind .ensures)) (c .if1 .taken))
+    simp (unequal {n = 42} (ap length (c .before .part-of-kind .ensures)) (λ h. omega (arith, c .if1 .taken)))
 
 part-of-kind-requires-2 : tie.Need-part-of-kind-requires-2
 part-of-kind-requires-2 c κs = search needs

@@ -1,6 +1,7 @@
 -- `joint::layout::read_pair` meets its contract.
 -- Assumes nothing.
 use borrow.Author.Needs.{needs}
+use native.Mathlib.Omega.{arith}
 use Rattle.joint.proofs.Tests.{equal, unequal}
 use Rattle.joint.specs.Refusal.{pairFrom}
 use Rattle.joint.specs.Stage.{pairStage}
@@ -31,13 +32,13 @@ cast-length c = search needs
 returns : tie.Need-returns
 unfolding pairStage pairFrom
 returns c =
-    simp (unequal (c .before .before .u16-at .ensures) (c .if1 .taken))
+    simp (unequal {n = c .before .before .before .before .args .start} (c .before .before .u16-at .ensures) (λ h. omega (arith, c .if1 .taken)))
 
 returns-2 : tie.Need-returns-2
 unfolding pairStage pairFrom
 returns-2 c =
     simp (
-      equal (c .before .before .before .u16-at .ensures) (c .before .if1 .left),
+      equal {n = c .before .before .before .before .before .args .start} (c .before .before .before .u16-at .ensures) (omega (arith, c .before .if1 .left)),
       equal (c .before .before .u16-at2 .ensures) (c .if2 .taken),
     )
 
@@ -48,7 +49,7 @@ returns-3 : tie.Need-returns-3
 unfolding pairStage pairFrom
 returns-3 c =
     simp (
-      equal (c .before .before .before .u16-at .ensures) (c .before .if1 .left),
+      equal {n = c .before .before .before .before .before .args .start} (c .before .before .before .u16-at .ensures) (omega (arith, c .before .if1 .left)),
       unequal (c .before .before .u16-at2 .ensures) (c .if2 .left),
       c .before .before .before .u16-at .ensures,
       c .before .before .u16-at2 .ensures,

@@ -1,7 +1,6 @@
 -- `joint::limits::has_empty_outline` meets its contract.
 -- Assumes nothing.
 use borrow.Author.Needs.{needs}
-use mathlib.Core.Path.{_∙_, sym}
 use Rattle.joint.specs.Refusal.{emptyOutlines}
 use Rattle.joint.proofs.limits.has_empty_outline.Statement.{statement}
 use Rattle.joint.proofs.limits.has_empty_outline.Tie as tie
@@ -9,23 +8,14 @@ use Rattle.joint.proofs.limits.has_empty_outline.Tie as tie
 outline-empty-requires : tie.Need-outline-empty-requires
 outline-empty-requires c κs = search needs
 
-returns : tie.Need-returns
-unfolding emptyOutlines
-returns c =
-    simp (sym (c .before .outline-empty .ensures) ∙ c .if1 .taken)
-
 outline-empty-requires-2 : tie.Need-outline-empty-requires-2
 outline-empty-requires-2 c κs = search needs
 
-returns-2 : tie.Need-returns-2
+returns : tie.Need-returns
 unfolding emptyOutlines
-returns-2 c =
-    let b3 = c .before .before .before in
-    let b4 = b3 .before in
-    simp
-    (sym (b4 .outline-empty .ensures) ∙ b3 .if1 .left)
-    (c .outline-empty2 .ensures)
+returns c =
+    simp (c .before .outline-empty .ensures, c .outline-empty2 .ensures)
 
 pub has-empty-outline-spec : {M : Type 1} → statement M
 has-empty-outline-spec =
-    tie.close (tie.spec outline-empty-requires returns outline-empty-requires-2 returns-2)
+    tie.close (tie.spec outline-empty-requires outline-empty-requires-2 returns)

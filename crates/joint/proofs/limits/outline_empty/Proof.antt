@@ -11,21 +11,12 @@ use Rattle.joint.proofs.limits.outline_empty.Tie as tie
 returns : tie.Need-returns
 unfolding outlineEmpty
 returns c =
-    let o = c .before .before .before .args .o in
-    let x0 : toZ w32 (ofZ w32 (o .x0)) ≡ o .x0 = search needs in
-    let x1 : toZ w32 (ofZ w32 (o .x1)) ≡ o .x1 = search needs in
-    simp (simp (x0, x1) at (c .if1 .taken)) (c .if1 .taken)
-
-returns-2 : tie.Need-returns-2
-unfolding outlineEmpty
-returns-2 c =
-    let b5 = c .before .before .before .before .before in
-    let o = b5 .args .o in
+    let o = c .before .before .before .before .args .o in
     let x0 : toZ w32 (ofZ w32 (o .x0)) ≡ o .x0 = search needs in
     let x1 : toZ w32 (ofZ w32 (o .x1)) ≡ o .x1 = search needs in
     let y0 : toZ w32 (ofZ w32 (o .y0)) ≡ o .y0 = search needs in
     let y1 : toZ w32 (ofZ w32 (o .y1)) ≡ o .y1 = search needs in
-    simp (y0, y1, simp (x0, x1) at (c .before .before .if1 .left))
+    simp (x0, x1, y0, y1)
 
 pub outline-empty-spec : {M : Type 1} → statement M
-outline-empty-spec = tie.close (tie.spec returns returns-2)
+outline-empty-spec = tie.close (tie.spec returns)

@@ -2,7 +2,6 @@
 -- Assumes nothing.
 use borrow.Author.Needs.{needs}
 use borrow.Author.Tests.{le-leb, lt-leb}
-use Rattle.joint.proofs.Tests.{failed, held}
 use Rattle.joint.specs.Refusal.{positionsWithin}
 use Rattle.joint.proofs.limits.positions_within.Statement.{statement}
 use Rattle.joint.proofs.limits.positions_within.Tie as tie
@@ -20,40 +19,21 @@ returns-2 c =
 are-coordinates-requires : tie.Need-are-coordinates-requires
 are-coordinates-requires c κs = search needs
 
-returns-3 : tie.Need-returns-3
-unfolding positionsWithin
-returns-3 c =
-    let b3 = c .before .before .before in
-    let b4 = b3 .before in
-    simp (
-      le-leb _ _ (b4 .if1 .left),
-      le-leb _ _ (b3 .if2 .left),
-      failed (c .before .are-coordinates .ensures) (c .if3 .taken),
-    )
-
 are-coordinates-requires-2 : tie.Need-are-coordinates-requires-2
 are-coordinates-requires-2 c κs = search needs
 
-returns-4 : tie.Need-returns-4
+returns-3 : tie.Need-returns-3
 unfolding positionsWithin
-returns-4 c =
-    let b3 = c .before .before .before in
-    let b5 = b3 .before .before in
-    let b6 = b5 .before in
+returns-3 c =
+    let b4 = c .before .before .before .before in
     simp (
-      le-leb _ _ (b6 .if1 .left),
-      le-leb _ _ (b5 .if2 .left),
-      held (b3 .are-coordinates .ensures) (c .before .before .if3 .left),
+      le-leb _ _ (b4 .before .if1 .left),
+      le-leb _ _ (b4 .if2 .left),
+      c .before .are-coordinates .ensures,
+      c .are-coordinates2 .ensures,
     )
-    (c .are-coordinates2 .ensures)
 
 pub positions-within-spec : {M : Type 1} → statement M
 positions-within-spec =
     tie.close
-    (tie.spec
-    returns
-    returns-2
-    are-coordinates-requires
-    returns-3
-    are-coordinates-requires-2
-    returns-4)
+    (tie.spec returns returns-2 are-coordinates-requires are-coordinates-requires-2 returns-3)

@@ -4,10 +4,10 @@ use borrow.Author.Needs.{needs}
 use mathlib.Core.Path.{_∙_, ap, sym}
 use lib.Seq.{take-all, length-take-le}
 use native.Mathlib.Nat.{le-of-lt}
 use Rattle.joint.specs.Workings.{reportOf}
 use Rattle.joint.proofs.Claims.{input-judged, input-long}
-use Rattle.joint.proofs.judge_input.Statement.{statement}
-use Rattle.joint.proofs.judge_input.Tie as tie
+use Rattle.console.proofs.judge_input.Statement.{statement}
+use Rattle.console.proofs.judge_input.Tie as tie
 
 returns : tie.Need-returns
 returns c = input-long (c .before .before .args .buffer .now) (c .before .before .args .count) (c .before .before .args .more) (c .if1 .taken)

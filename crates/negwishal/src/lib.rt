@@ -1,8 +1,8 @@
 // The entry for C: a record is judged, and the report's fields go into a lent slice of numbers, in an order that is fixed for good.
-use crate::judge;
-use crate::report::Verdict;
+use joint::judge;
+use joint::report::Verdict;
 ghost use mathlib.Core.Path.{_≡_};
-ghost use Rattle.joint.specs.Export.{verdictCode, Exported};
+ghost use Rattle.negwishal.specs.Export.{verdictCode, Exported};
 
 // How many numbers a report takes.
 pub const FIELDS: usize = 8;
@@ -20,7 +20,7 @@ fn verdict_code(v: Verdict) -> u64
 // Judges a record. A slice of fewer than eight numbers is left as it is and 1 comes back; else 0, and the report's fields stand in it:
 // verdict (0 refused, 1 fits, 2 overloaded), number, member, first, second, use, capacity, share.
 #[no_mangle]
-pub extern "C" fn joint_judge(bytes: &[u8], out: &mut [u64]) -> u32
+pub extern "C" fn negwishal_judge(bytes: &[u8], out: &mut [u64]) -> u32
     ensures { λ r. ⌜ Exported (now (bytes .entry)) (now (out .entry)) r (now (out .exit)) ⌝ }
 {
     if out.len() < FIELDS {

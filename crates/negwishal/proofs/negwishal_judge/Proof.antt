@@ -1,4 +1,4 @@
--- `joint_judge` meets its contract: eight stores from place 0 on.
+-- `negwishal_judge` meets its contract: eight stores from place 0 on.
 use native.Mathlib.Omega.{arith}
 use borrow.Author.Needs.{needs}
 use Prim.Native.Nat.{ℕ}
@@ -6,10 +6,10 @@ use mathlib.Core.Path.{refl, ap, _∙_}
 use mathlib.Core.List.{List, [], _∷_}
 use lib.ListN.{length-set}
 use lib.Seq.{sets, sets-eq}
 use Rattle.joint.specs.declared.report.Report.{Report}
-use Rattle.joint.specs.Export.{filled}
-use Rattle.joint.proofs.exports.joint_judge.Statement.{statement}
-use Rattle.joint.proofs.exports.joint_judge.Tie as tie
+use Rattle.negwishal.specs.Export.{filled}
+use Rattle.negwishal.proofs.negwishal_judge.Statement.{statement}
+use Rattle.negwishal.proofs.negwishal_judge.Tie as tie
 
 -- a report's fields but the verdict
 abbrev rest : Report → List ℕ
@@ -75,8 +75,8 @@ returns-2 c = record {
   );
 }
 
-pub joint-judge-spec : {M : Type 1} → statement M
-joint-judge-spec =
+pub negwishal-judge-spec : {M : Type 1} → statement M
+negwishal-judge-spec =
     tie.close
     (tie.spec
     returns
