@@ -1,6 +1,6 @@
 -- What the inner routines ask and hand on: numbers in limbs, with as many bits as their arrays hold.
 -- Assumes nothing.
-use Prim.Native.Nat.{ℕ, _+_, _*_, _^_, _≤_, _<_}
+use Prim.Native.Nat.{ℕ, _+_, _*_, _-_, _^_, _≤_, _<_}
 use mathlib.Core.Path.{_≡_}
 use Rattle.wide.specs.Natural.{value}
 use Rattle.strength.specs.declared.plane.Member.{Member}
@@ -8,10 +8,17 @@ use Rattle.strength.specs.declared.terms.Bearing.{Bearing}
 use Rattle.strength.specs.declared.terms.Joined.{Joined}
 use Rattle.strength.specs.Working.{bearingNum, bearingDen, crossed}
 
+-- what a member's bearing is made of, with cos²α = along/total
+pub record BearingWithin (density k90 along total : ℕ) : Type 0 where
+  pub density-high : density ≤ 1100
+  pub k90-high : k90 ≤ 1800
+  pub angle : along ≤ total
+  pub force-high : total < 2 ^ 62
+
 -- the bearing of a member
-pub record BearingOf (m : Member) (b : Bearing) : Type 0 where
-  pub num : value (b .num) ≡ bearingNum m
-  pub den : value (b .den) ≡ bearingDen m
+pub record BearingOf (density k90 along total : ℕ) (b : Bearing) : Type 0 where
+  pub num : value (b .num) ≡ density * total
+  pub den : value (b .den) ≡ k90 * (total - along) + 1000 * along
 
 -- what is made of both bearings
 pub record JoinedOf (side other : Member) (j : Joined) : Type 0 where

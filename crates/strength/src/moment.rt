@@ -20,8 +20,7 @@ fn to_the_fifth(diameter: u64, steel: u64) -> [u32; 5]
     let b = 300 * steel;
     let d2 = diameter * diameter;
     let x = b * b * d2 * d2 * diameter;
-    let mut square = [0u32; 4];
-    wide::multiply_add_u64(&mut square, &wide::from_u64(x), x);
+    let square = wide::product_u64(x, x);
     let mut n = [0u32; 5];
     wide::multiply_add_u64(&mut n, &square, b * d2 * diameter);
     n

@@ -39,8 +39,7 @@ pub fn fifth_power_at_most(r: u64, q: &[u32], n: &[u32]) -> bool
     requires { ⌜ FactorWithin (value (now q)) ⌝ }
     ensures { λ b. ⌜ b ≡ leb (r ^ 5 * value (now (q .entry))) (value (now (n .entry))) ⌝ }
 {
-    let mut square = [0u32; 4];
-    wide::multiply_add_u64(&mut square, &wide::from_u64(r), r);
+    let square = wide::product_u64(r, r);
     let mut fourth = [0u32; 8];
     wide::multiply_add(&mut fourth, &square, &square);
     let mut fifth = [0u32; 10];

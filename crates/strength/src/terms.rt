@@ -7,7 +7,7 @@ ghost use lib.Dec.{eqb};
 ghost use Rattle.wide.specs.Natural.{value};
 ghost use Rattle.strength.specs.Tables.{choose};
 ghost use Rattle.strength.specs.Shear.{MemberWithin};
-ghost use Rattle.strength.specs.Leaves.{BearingOf, JoinedOf, Bits, Part, FirstWithin, ForceWithin};
+ghost use Rattle.strength.specs.Leaves.{BearingWithin, BearingOf, JoinedOf, Bits, Part, FirstWithin, ForceWithin};
 ghost use Rattle.strength.specs.Working.{firstOf, shareRootOf, wedgeOf, halfOf};
 
 // 2^30 and 2^60: the unit of the root of s² and c², and its square.
@@ -21,16 +21,16 @@ pub struct Bearing {
     pub den: [u32; 3],
 }
 
-// The bearing of a member, with its own angle.
-pub fn bearing_of(m: Member) -> Bearing
-    requires { ⌜ MemberWithin m ⌝ }
-    ensures { λ r. ⌜ BearingOf m r ⌝ }
+// The bearing of a member, with cos²α = along/total.
+pub fn bearing_of(density: u64, k90: u64, along: u64, total: u64) -> Bearing
+    requires { ⌜ BearingWithin density k90 along total ⌝ }
+    ensures { λ r. ⌜ BearingOf density k90 along total r ⌝ }
 {
     let mut num = [0u32; 3];
-    wide::multiply_add_u64(&mut num, &wide::from_u64(m.total), m.density);
+    wide::multiply_add_u64(&mut num, &wide::from_u64(total), density);
     let mut den = [0u32; 3];
-    wide::multiply_add_u64(&mut den, &wide::from_u64(m.total - m.along), m.k90);
-    wide::multiply_add_u64(&mut den, &wide::from_u64(m.along), 1000);
+    wide::multiply_add_u64(&mut den, &wide::from_u64(total - along), k90);
+    wide::multiply_add_u64(&mut den, &wide::from_u64(along), 1000);
     Bearing { num, den }
 }
 
@@ -68,13 +68,13 @@ pub struct Joined {
     pub nums: [u32; 5],
 }
 
-// The bearings of members 1 and 2, each worked out once.
+// The bearings of members 1 and 2, each with its own angle and worked out once.
 pub fn join(side: Member, other: Member) -> Joined
     requires { ⌜ MemberWithin side × MemberWithin other ⌝ }
     ensures { λ r. ⌜ JoinedOf side other r ⌝ }
 {
-    let f1 = bearing_of(side);
-    let f2 = bearing_of(other);
+    let f1 = bearing_of(side.density, side.k90, side.along, side.total);
+    let f2 = bearing_of(other.density, other.k90, other.along, other.total);
     let num1 = f1.num;
     let den1 = f1.den;
     let num2 = f2.num;

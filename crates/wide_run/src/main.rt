@@ -1,4 +1,4 @@
-// Runs every public operation of `wide` on the cases of standard input and writes what it got, nine lines for each case. Where an
+// Runs every public operation of `wide` on the cases of standard input and writes what it got, ten lines for each case. Where an
 // operation asks something of its operands, it is run only where a test shows that, and the line ends in '-' elsewhere.
 ghost use mathlib.Core.Path.{_≡_};
 ghost use Prim.Native.Nat.{_+_, _<_, _≤_};
@@ -42,6 +42,7 @@ fn run_case(block: &[u8; 138]) {
     let b = cases::limbs_at(block, 66);
     read_only(&a[..n], &b[..m], cases::u64_at(block, 130));
     in_place(a, n, &b[..m]);
+    write_short_product(cases::u64_at(block, 2), cases::u64_at(block, 130));
 }
 
 // The operations that leave a and b as they are.
@@ -174,6 +175,11 @@ fn write_product_u64(p: &mut [u32], a: &[u32], m: u64)
 {
     wide::multiply_add_u64(p, a, m);
     write_line(b"times ", p);
+}
+
+// The product of two 64-bit numbers: the two lowest limbs of a, and m.
+fn write_short_product(a: u64, m: u64) {
+    write_line(b"short product ", &wide::product_u64(a, m));
 }
 
 // a + b in a's own limbs, where it fits; `room` is as long as a.

@@ -50,6 +50,15 @@ slice-aggregate-in-place c = taken _ _ (omega arith)
 in-place-requires : tie.Need-in-place-requires
 in-place-requires c κs = (omega arith, taken-within (c .before .before .before .before .before .before .before .before .before .before .count2 .result) (c .before .before .before .before .before .before .limbs-at2 .result) 16 (omega arith) (omega arith), omega arith)
 
+u64-at-requires-2 : tie.Need-u64-at-requires-2
+u64-at-requires-2 c κs = search needs
+
+u64-at-requires-3 : tie.Need-u64-at-requires-3
+u64-at-requires-3 c κs = search needs
+
+write-short-product-requires : tie.Need-write-short-product-requires
+write-short-product-requires c κs = search needs
+
 returns : tie.Need-returns
 returns c = search needs
 
@@ -72,4 +81,7 @@ run-case-spec =
     array-share-prefix-b-2
     slice-aggregate-in-place
     in-place-requires
+    u64-at-requires-2
+    u64-at-requires-3
+    write-short-product-requires
     returns)

@@ -53,9 +53,6 @@ gathered n s x d fu en es ex =
         ≡ b * b * (b * b) * b * (d * d * (d * d) * d * (d * d * (d * d) * d) * (d * d * d))
     again b d = omega arith
 
-square : (s a x : ℕ) → s ≡ a * x → a ≡ x → s ≡ x * x
-square s a x e f = e ∙ ap (λ (z : ℕ). z * x) f
-
 pub to-the-fifth-spec : {M : Type 1} → statement M
 to-the-fifth-spec =
     tie.close
@@ -66,21 +63,13 @@ to-the-fifth-spec =
     (λ c. record { fits = lt-of-le-of-lt (x2 (c .pre)) (lit< tt) })
     (λ c. record { fits = lt-of-le-of-lt (x3 (c .pre)) (lit< tt) })
     (λ c. record { fits = lt-of-lt-of-le (x4 (c .pre)) (lit≤ tt) })
-    (λ c. search needs)
     (λ c κs. search needs)
     (λ c. search needs)
-    (λ c κs. room _ 122 tt (product-bits 61 61 (rw (c .before .from-u64 .ensures) (x4 (c .before .before .before .pre))) (x4 (c .before .before .before .pre))) tt)
     (λ c. search needs)
-    (λ c. search needs)
-    (λ c. record { fits = lt-of-le-of-lt (y1 (c .before .before .before .before .before .before .before .pre)) (lit< tt) })
-    (λ c. record { fits = lt-of-lt-of-le (y2 (c .before .before .before .before .before .before .before .pre)) (lit≤ tt) })
+    (λ c. record { fits = lt-of-le-of-lt (y1 (c .before .before .before .pre)) (lit< tt) })
+    (λ c. record { fits = lt-of-lt-of-le (y2 (c .before .before .before .pre)) (lit≤ tt) })
     (λ c κs.
     room _ 155 tt
-    (product-bits 122 33
-    (rw (square _ _ _ (made _ tt (c .before .before .before .multiply-add-u64 .ensures)) (c .before .before .before .before .before .from-u64 .ensures)) (product-bits 61 61 (x4 (c .before .before .before .before .before .before .before .pre)) (x4 (c .before .before .before .before .before .before .before .pre))))
-    (y2 (c .before .before .before .before .before .before .before .pre)))
+    (product-bits 122 33 (rw (c .before .before .product-u64 .ensures) (product-bits 61 61 (x4 (c .before .before .before .pre)) (x4 (c .before .before .before .pre)))) (y2 (c .before .before .before .pre)))
     tt)
-    (λ c.
-    gathered _ _ _ _ _ (made _ tt (c .before .multiply-add-u642 .ensures))
-    (square _ _ _ (made _ tt (c .before .before .before .before .before .multiply-add-u64 .ensures)) (c .before .before .before .before .before .before .before .from-u64 .ensures))
-    refl))
+    (λ c. gathered _ _ _ _ _ (made _ tt (c .before .multiply-add-u64 .ensures)) (c .before .before .before .before .product-u64 .ensures) refl))

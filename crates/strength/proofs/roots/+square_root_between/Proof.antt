@@ -24,7 +24,7 @@ below t = and 0 kinds.ps (falls 0 kinds.ps _<_ μ t) reads.Pre
 pub +square-root-between-spec : {M : Type 1} → statement M
 +square-root-between-spec = close μ λ t. lts.spec (below t, reads.Post) (at t) reads.Post
     (λ c. search needs)
-    (λ c. record { low = c .before .pre .1 .low; high = next-square _ _ _ (c .before .pre .1 .high) (omega arith) })
+    (λ c. record { low = omega (arith, c .before .pre .1 .low); high = next-square _ _ _ (c .before .pre .1 .high) (omega arith) })
     (λ c. search needs)
     (λ c. record { fits = square-fits (omega arith) })
     (λ c κs. search needs)

@@ -11,9 +11,6 @@ use Rattle.strength.proofs.Room.{room, made}
 use Rattle.strength.proofs.roots.fifth_power_at_most.Statement.{statement}
 use Rattle.strength.proofs.roots.fifth_power_at_most.Tie as tie
 
-square : (s a r : ℕ) → s ≡ a * r → a ≡ r → s ≡ r * r
-square s a r e f = e ∙ ap (λ (z : ℕ). z * r) f
-
 square-bits : {s r : ℕ} → s ≡ r * r → r < 2 ^ 64 → s < 2 ^ 128
 square-bits e h = rw e (product-bits 64 64 h h)
 
@@ -31,38 +28,30 @@ pub fifth-power-at-most-spec : {M : Type 1} → statement M
 fifth-power-at-most-spec =
     tie.close
     (tie.spec
+    (λ c κs. search needs)
     (λ c. search needs)
     (λ c. search needs)
     (λ c. search needs)
-    (λ c κs. room _ 128 tt (product-bits 64 64 (rw (c .before .from-u64 .ensures) (c .before .before .before .before .before .fits .r .fits)) (c .before .before .before .before .before .fits .r .fits)) tt)
-    (λ c. search needs)
-    (λ c. search needs)
-    (λ c. search needs)
-    (λ c κs.
-    let s = square _ _ _ (made _ tt (c .before .before .before .before .multiply-add-u64 .ensures)) (c .before .before .before .before .before .before .from-u64 .ensures) in
-    room _ 256 tt (product-bits 128 128 (square-bits s (c .before .before .before .before .before .before .before .before .before .before .fits .r .fits)) (square-bits s (c .before .before .before .before .before .before .before .before .before .before .fits .r .fits))) tt)
+    (λ c κs. room _ 256 tt (product-bits 128 128 (square-bits (c .before .before .before .product-u64 .ensures) (c .before .before .before .before .before .before .fits .r .fits)) (square-bits (c .before .before .before .product-u64 .ensures) (c .before .before .before .before .before .before .fits .r .fits))) tt)
     (λ c. search needs)
     (λ c. search needs)
     (λ c κs.
     room _ 320 tt
-    (product-bits 256 64
-    (fourth-bits (made _ tt (c .before .before .before .multiply-add .ensures)) (square _ _ _ (made _ tt (c .before .before .before .before .before .before .before .before .multiply-add-u64 .ensures)) (c .before .before .before .before .before .before .before .before .before .before .from-u64 .ensures)) (c .before .before .before .before .before .before .before .before .before .before .before .before .before .before .fits .r .fits))
-    (c .before .before .before .before .before .before .before .before .before .before .before .before .before .before .fits .r .fits))
+    (product-bits 256 64 (fourth-bits (made _ tt (c .before .before .before .multiply-add .ensures)) (c .before .before .before .before .before .before .before .product-u64 .ensures) (c .before .before .before .before .before .before .before .before .before .before .fits .r .fits)) (c .before .before .before .before .before .before .before .before .before .before .fits .r .fits))
     tt)
     (λ c. search needs)
     (λ c. search needs)
     (λ c κs.
     room _ 416 tt
     (product-bits 320 96
-    (fifth-bits (made _ tt (c .before .before .before .multiply-add-u642 .ensures)) (made _ tt (c .before .before .before .before .before .before .before .multiply-add .ensures)) (square _ _ _ (made _ tt (c .before .before .before .before .before .before .before .before .before .before .before .before .multiply-add-u64 .ensures)) (c .before .before .before .before .before .before .before .before .before .before .before .before .before .before .from-u64 .ensures))
-    (c .before .before .before .before .before .before .before .before .before .before .before .before .before .before .before .before .before .before .fits .r .fits))
-    (c .before .before .before .before .before .before .before .before .before .before .before .before .before .before .before .before .before .before .pre .high))
+    (fifth-bits (made _ tt (c .before .before .before .multiply-add-u64 .ensures)) (made _ tt (c .before .before .before .before .before .before .before .multiply-add .ensures)) (c .before .before .before .before .before .before .before .before .before .before .before .product-u64 .ensures) (c .before .before .before .before .before .before .before .before .before .before .before .before .before .before .fits .r .fits))
+    (c .before .before .before .before .before .before .before .before .before .before .before .before .before .before .pre .high))
     tt)
     (λ c. search needs)
     (λ c κs. search needs)
     (λ c.
     c .at-most .ensures
-    ∙ ap (λ (z : ℕ). leb z (value (c .before .before .before .before .before .before .before .before .before .before .before .before .before .before .before .before .before .before .before .before .before .before .args .n .now)))
-    (whole _ _ _ _ _ _ (made _ tt (c .before .before .before .multiply-add2 .ensures)) (made _ tt (c .before .before .before .before .before .before .before .multiply-add-u642 .ensures))
+    ∙ ap (λ (z : ℕ). leb z (value (c .before .before .before .before .before .before .before .before .before .before .before .before .before .before .before .before .before .before .args .n .now)))
+    (whole _ _ _ _ _ _ (made _ tt (c .before .before .before .multiply-add2 .ensures)) (made _ tt (c .before .before .before .before .before .before .before .multiply-add-u64 .ensures))
     (made _ tt (c .before .before .before .before .before .before .before .before .before .before .before .multiply-add .ensures))
-    (square _ _ _ (made _ tt (c .before .before .before .before .before .before .before .before .before .before .before .before .before .before .before .before .multiply-add-u64 .ensures)) (c .before .before .before .before .before .before .before .before .before .before .before .before .before .before .before .before .before .before .from-u64 .ensures)))))
+    (c .before .before .before .before .before .before .before .before .before .before .before .before .before .before .before .product-u64 .ensures))))

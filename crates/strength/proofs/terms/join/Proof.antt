@@ -5,6 +5,7 @@ use mathlib.Core.Path.{_≡_, _∙_, ap₂}
 use Prim.Native.Nat.{ℕ, _+_, _*_, _^_, _<_}
 use Rattle.wide.proofs.Bits.{product-bits}
 use Rattle.strength.specs.Leaves.{Bits}
+use Rattle.strength.specs.Working.{bearingNum, bearingDen}
 use Rattle.strength.proofs.Sizes.{num-bits, den-bits}
 use Rattle.strength.proofs.terms.join.Statement.{statement}
 use Rattle.strength.proofs.terms.join.Tie as tie
@@ -20,10 +21,12 @@ product-is-short r x y e h g = rw e (product-bits 73 73 h g)
 
 returns : tie.Need-returns
 returns c =
+    let side = c .before .before .before .before .before .before .before .before .before .before .before .before .before .before .before .before .before .before .args .side in
+    let other = c .before .before .before .before .before .before .before .before .before .before .before .before .before .before .before .before .before .before .args .other in
     let a = c .before .before .before .before .before .before .before .before .before .before .before .before .before .before .before .before .before .bearing-of .ensures in
     let b = c .before .before .before .before .before .before .before .before .before .before .before .before .before .before .before .before .bearing-of2 .ensures in
-    let ab = times _ _ _ _ _ (c .before .before .before .before .before .before .before .before .before .product .ensures) (a .num) (b .den) in
-    let ba = times _ _ _ _ _ (c .before .before .before .before .before .before .product2 .ensures) (b .num) (a .den) in
+    let ab = times _ _ _ (bearingNum side) (bearingDen other) (c .before .before .before .before .before .before .before .before .before .product .ensures) (a .num) (b .den) in
+    let ba = times _ _ _ (bearingNum other) (bearingDen side) (c .before .before .before .before .before .before .product2 .ensures) (b .num) (a .den) in
     record {
       num1 = a .num;
       den1 = a .den;
@@ -32,7 +35,7 @@ returns c =
       cross1 = ab;
       cross2 = ba;
       whole = c .before .before .before .sum .ensures ∙ ap₂ (λ (u v : ℕ). u + v) ab ba;
-      nums = times _ _ _ _ _ (c .product3 .ensures) (a .num) (b .num);
+      nums = times _ _ _ (bearingNum side) (bearingNum other) (c .product3 .ensures) (a .num) (b .num);
     }
 
 pub join-spec : {M : Type 1} → statement M
