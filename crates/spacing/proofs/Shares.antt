@@ -22,6 +22,10 @@ use Rattle.spacing.proofs.Sizes.{unit5, number2}
 pub fourth : (e : ℕ) → e * e * (e * e) ≡ e ^ 4
 fourth e = rw (pow-suc e 3, pow-suc e 2, pow-suc e 1, pow-suc e 0, pow-zero e) (omega arith)
 
+-- the test of a power at another name of its base
+pub power-tested : (b : Bool) (r s q n : ℕ) → b ≡ leb (r ^ 5 * q) n → r ≡ s → b ≡ leb (s ^ 5 * q) n
+power-tested b r s q n h e = h ∙ ap (λ z. leb (z ^ 5 * q) n) e
+
 power20 : {a b : ℕ} → a ≤ b → (a ^ 4) ^ 5 ≤ (b ^ 4) ^ 5
 power20 h = pow-le-pow-left (pow-le-pow-left h 4) 5
 

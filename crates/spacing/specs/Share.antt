@@ -67,7 +67,7 @@ pub record GreatestShare (q n lo hi r : ℕ) : Type 0 where
   pub low : (r ^ 4) ^ 5 * q ≤ n
   pub high : n < ((r + 1) ^ 4) ^ 5 * q
 
--- the share of row r is that of the row lowered by the row
+-- the share of r is that of `worst` lowered by `row`
 pub record Decides (worst row r : Row) : Type 0 where
   pub within : RowWithin r
   pub both :
