@@ -3,7 +3,7 @@
 use mathlib.Core.Path.{_≡_, refl, sym, ap, _∙_}
 use mathlib.Core.Bool.{Bool, true, false, cond, true≢false}
 use Prim.Native.Nat.{ℕ, zero, suc, _+_, _*_, _^_, _≤_, _<_}
-use native.Mathlib.Nat.{mul-le-mul, mul-le-mul-left, mul-le-mul-right, le-trans, lt-of-lt-of-le, le-of-lt, lt-of-not-le, pow-le-pow-left, pow-suc, pow-zero, le-refl, le-of-mul-le-mul-right, mul-pos}
+use native.Mathlib.Nat.{mul-le-mul, mul-le-mul-left, mul-le-mul-right, le-trans, lt-of-lt-of-le, le-of-lt, lt-of-not-le, pow-le-pow-left, pow-suc, pow-zero, le-refl, le-of-mul-le-mul-right, mul-pos, mul-comm}
 use native.Mathlib.Decide.{decLe}
 use native.Mathlib.Omega.{arith}
 use borrow.Author.Tests.{le-leb, lt-leb, leb-true}
@@ -38,10 +38,10 @@ pub some-share : (q n e : ℕ) → n < (e ^ 4) ^ 5 * q → 0 < e
 some-share q n zero h = absurd (omega arith)
 some-share q n (suc e) h = omega arith
 
--- (130 d)^5 n² has 73 bits
-pub factor-within : {d n : ℕ} → d ≤ 30 → n ≤ 64 → FactorWithin ((130 * d) ^ 5 * (n * n))
+-- n² (130 d)^5 has 73 bits
+pub factor-within : {d n : ℕ} → d ≤ 30 → n ≤ 64 → FactorWithin (n * n * (130 * d) ^ 5)
 factor-within {d} {n} h m = record {
-  high = rw (← (fifth-is (130 * d))) (lt-of-lt-of-le (product-bits 60 13 (unit5 h) (number2 m)) (omega arith));
+  high = rw (← (fifth-is (130 * d))) (lt-of-lt-of-le (product-bits 13 60 (number2 m) (unit5 h)) (omega arith));
 }
 
 -- ---- the shares that a row passes
@@ -157,19 +157,20 @@ greatest-above test (suc e) h =
 
 -- the greatest share of a row, by its bracket
 pub row-floor :
-    (d n a share q m r : ℕ) → q ≡ (130 * d) ^ 5 * (n * n) → m ≡ units * a ^ 5 → GreatestShare q m 0 share r →
+    (d n a share q m r : ℕ) → q ≡ n * n * (130 * d) ^ 5 → m ≡ units * a ^ 5 → GreatestShare q m 0 share r →
     r ≡ greatestTo (rowPasses d n a) share
 unfolding rowPasses
 row-floor d n a share q m r eq em g =
+    let e = eq ∙ mul-comm (n * n) ((130 * d) ^ 5) in
     greatest-found _ r share (le-of-lt (g .below))
-    (le-leb _ _ (rw (eq, em) at (g .low)))
-    (λ k h l. lt-leb _ _ (lt-of-lt-of-le (rw (eq, em) at (g .high)) (mul-le-mul-right ((130 * d) ^ 5 * (n * n)) (power20 (omega arith)))))
+    (le-leb _ _ (rw (e, em) at (g .low)))
+    (λ k h l. lt-leb _ _ (lt-of-lt-of-le (rw (e, em) at (g .high)) (mul-le-mul-right ((130 * d) ^ 5 * (n * n)) (power20 (omega arith)))))
 
 -- the test in wide numbers is the row's test
 pub row-tested :
-    (d n a e q m : ℕ) → q ≡ (130 * d) ^ 5 * (n * n) → m ≡ units * a ^ 5 → leb ((e ^ 4) ^ 5 * q) m ≡ rowPasses d n a e
+    (d n a e q m : ℕ) → q ≡ n * n * (130 * d) ^ 5 → m ≡ units * a ^ 5 → leb ((e ^ 4) ^ 5 * q) m ≡ rowPasses d n a e
 unfolding rowPasses
-row-tested d n a e q m eq em = rw (eq, em)
+row-tested d n a e q m eq em = rw (eq ∙ mul-comm (n * n) ((130 * d) ^ 5), em)
 
 -- of two rows the one with the greater n²/a^5 decides
 pub first-decides :

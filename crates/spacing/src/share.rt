@@ -44,20 +44,13 @@ const UNITS: [u32; 9] = [
     863,
 ];
 
-// (130 d)^5 n².
-fn factor(d: u64, number: u64) -> [u32; 3]
-    requires { ⌜ (d ≤ 30) × (number ≤ 64) ⌝ }
-    ensures { λ r. ⌜ value r ≡ (130 * d) ^ 5 * (number * number) ⌝ }
+// number² length^5.
+fn product(number: u64, length: u64) -> [u32; 4]
+    requires { ⌜ (number ≤ 64) × (length ≤ 200000) ⌝ }
+    ensures { λ r. ⌜ value r ≡ number * number * length ^ 5 ⌝ }
 {
-    let unit = 130 * d;
-    let square = unit * unit;
-    let mut product = [0u32; 3];
-    wide::multiply_add_u64(
-        &mut product,
-        &wide::from_u64(square * square * unit),
-        number * number,
-    );
-    product
+    let square = length * length;
+    wide::product_u64(number * number * square, square * length)
 }
 
 // 10,000^20 a1^5.
@@ -65,12 +58,10 @@ fn scaled(a1: u64) -> [u32; 12]
     requires { ⌜ a1 ≤ 200000 ⌝ }
     ensures { λ r. ⌜ value r ≡ units * a1 ^ 5 ⌝ }
 {
-    let square = a1 * a1;
-    let mut power = [0u32; 3];
-    wide::multiply_add_u64(&mut power, &wide::from_u64(square * a1), square);
-    let mut product = [0u32; 12];
-    wide::multiply_add(&mut product, &UNITS, &power);
-    product
+    let power = product(1, a1);
+    let mut scaled = [0u32; 12];
+    wide::multiply_add(&mut scaled, &UNITS, &power);
+    scaled
 }
 
 // Whether e^20 q is at most n.
@@ -104,21 +95,12 @@ fn row_share(d: u64, row: Row) -> u64
     requires { ⌜ (d ≤ 30) × RowWithin row ⌝ }
     ensures { λ r. ⌜ r ≡ greatestTo (rowPasses d (row .number) (row .nearest)) 10000 ⌝ }
 {
-    let q = factor(d, row.number);
+    let q = product(row.number, 130 * d);
     let n = scaled(row.nearest);
     if passes(WHOLE, &q, &n) {
         return WHOLE;
     }
     greatest_between(&q, &n, 0, WHOLE)
-}
-
-// number² nearest^5.
-fn product(number: u64, nearest: u64) -> [u32; 4]
-    requires { ⌜ (number ≤ 64) × (nearest ≤ 200000) ⌝ }
-    ensures { λ r. ⌜ value r ≡ number * number * nearest ^ 5 ⌝ }
-{
-    let square = nearest * nearest;
-    wide::product_u64(number * number * square, square * nearest)
 }
 
 // Of two rows the one that passes fewer shares: the greater number² / nearest^5. A row no longer and no closer needs no powers.

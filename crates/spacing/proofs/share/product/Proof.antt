@@ -31,7 +31,7 @@ product-u64-requires c κs = search needs
 returns : tie.Need-returns
 returns c =
     let n = c .before .args .number in
-    let a = c .before .args .nearest in
+    let a = c .before .args .length in
     let e : n * n * (a * a) * (a * a * a) ≡ n * n * (a * a * a * (a * a)) = omega arith in
     c .product-u64 .ensures ∙ e ∙ ap (λ z. n * n * z) (fifth a)
 

@@ -9,8 +9,11 @@ use borrow.Author.Needs.{needs}
 use Rattle.spacing.proofs.share.row_share.Statement.{statement}
 use Rattle.spacing.proofs.share.row_share.Tie as tie
 
-factor-requires : tie.Need-factor-requires
-factor-requires c κs = search needs
+mul-product : tie.Need-mul-product
+mul-product c = search needs
+
+product-requires : tie.Need-product-requires
+product-requires c κs = search needs
 
 scaled-requires : tie.Need-scaled-requires
 scaled-requires c κs = search needs
@@ -24,12 +27,12 @@ slice-aggregate-passes-2 c = search needs
 passes-requires : tie.Need-passes-requires
 passes-requires c κs =
     let k = c .before .before .before .before .pre in
-    (lit≤ tt, rw (c .before .before .before .factor .ensures) (factor-within (k .0) (k .1 .most)))
+    (lit≤ tt, rw (c .before .before .before .product .ensures) (factor-within (k .0) (k .1 .most)))
 
 returns : tie.Need-returns
 returns c =
     let k = c .before .before .before .before .before .before .args in
-    let t = row-tested (k .d) (k .row .number) (k .row .nearest) 10000 _ _ (c .before .before .before .before .before .factor .ensures) (c .before .before .before .before .scaled .ensures) in
+    let t = row-tested (k .d) (k .row .number) (k .row .nearest) 10000 _ _ (c .before .before .before .before .before .product .ensures) (c .before .before .before .before .scaled .ensures) in
     greatest-here _ 10000 (sym t ∙ sym (c .before .passes .ensures) ∙ c .if1 .taken)
 
 slice-aggregate-greatest-between : tie.Need-slice-aggregate-greatest-between
@@ -47,18 +50,19 @@ greatest-between-requires c κs =
       top = lit≤ tt;
       low = omega arith;
       high = h;
-      factor = rw (c .before .before .before .before .before .before .before .factor .ensures) (factor-within (k .0) (k .1 .most));
+      factor = rw (c .before .before .before .before .before .before .before .product .ensures) (factor-within (k .0) (k .1 .most));
     }
 
 returns-2 : tie.Need-returns-2
 returns-2 c =
-    row-floor _ _ _ _ _ _ _ (c .before .before .before .before .before .before .before .before .factor .ensures) (c .before .before .before .before .before .before .before .scaled .ensures) (c .greatest-between .ensures)
+    row-floor _ _ _ _ _ _ _ (c .before .before .before .before .before .before .before .before .product .ensures) (c .before .before .before .before .before .before .before .scaled .ensures) (c .greatest-between .ensures)
 
 pub row-share-spec : {M : Type 1} → statement M
 row-share-spec =
     tie.close
     (tie.spec
-    factor-requires
+    mul-product
+    product-requires
     scaled-requires
     slice-aggregate-passes
     slice-aggregate-passes-2

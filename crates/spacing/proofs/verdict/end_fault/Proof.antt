@@ -10,19 +10,19 @@ use Rattle.spacing.proofs.verdict.end_fault.Statement.{statement}
 use Rattle.spacing.proofs.verdict.end_fault.Tie as tie
 
 negative-requires : tie.Need-negative-requires
-negative-requires c κs = search needs
+negative-requires c κs = tt
 
 from-end-requires : tie.Need-from-end-requires
 from-end-requires c κs = search needs
 
 positive-requires : tie.Need-positive-requires
-positive-requires c κs = search needs
+positive-requires c κs = tt
 
 from-end-requires-2 : tie.Need-from-end-requires-2
 from-end-requires-2 c κs = search needs
 
 first-outside-requires : tie.Need-first-outside-requires
-first-outside-requires c κs = search needs
+first-outside-requires c κs = c .before .before .before .before .before .before .before .before .before .before .before .before .pre .most
 
 one-dowel-requires : tie.Need-one-dowel-requires
 one-dowel-requires c κs = c .before .before .before .before .before .before .before .before .before .before .before .before .before .pre .most

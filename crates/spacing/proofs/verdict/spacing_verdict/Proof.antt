@@ -4,12 +4,11 @@ use mathlib.Core.Path.{_≡_, refl}
 use mir.Facts.{toZ-ofZ}
 use Rattle.spacing.specs.Verdict.{memberVerdict, spacingVerdict}
 use Rattle.spacing.proofs.Faults.{same-verdict, the-first, the-second}
-use borrow.Author.Needs.{needs}
 use Rattle.spacing.proofs.verdict.spacing_verdict.Statement.{statement}
 use Rattle.spacing.proofs.verdict.spacing_verdict.Tie as tie
 
 member-verdict-requires : tie.Need-member-verdict-requires
-member-verdict-requires c κs = search needs
+member-verdict-requires c κs = rw (toZ-ofZ (c .fits .fx), toZ-ofZ (c .fits .fy)) (c .pre)
 
 -- the verdicts are those of members 1 and 2
 first-is :
@@ -35,7 +34,9 @@ returns c =
     the-first _ _ _ (first-is (c .before .before)) (c .if1 .taken)
 
 member-verdict-requires-2 : tie.Need-member-verdict-requires-2
-member-verdict-requires-2 c κs = search needs
+member-verdict-requires-2 c κs =
+    let k = c .before .before .before in
+    rw (toZ-ofZ (k .fits .fx), toZ-ofZ (k .fits .fy)) (k .pre)
 
 returns-2 : tie.Need-returns-2
 unfolding spacingVerdict
