@@ -1,6 +1,6 @@
 -- The searches by whole limits find the faults of Table 8.
 -- Assumes nothing.
-use mathlib.Core.Path.{_≡_, refl, sym, ap, ap₂, fun-ext}
+use mathlib.Core.Path.{_≡_, refl, sym, ap, ap₂, fun-ext, _∙_}
 use mathlib.Core.Bool.{Bool, true, false, cond, not, _&&_, _||_}
 use mathlib.Core.List.{List}
 use Prim.Native.Nat.{ℕ, _+_, _*_, _≤_, _<_}
@@ -12,7 +12,7 @@ use lib.Signed.{leZ}
 use Rattle.spacing.specs.declared.verdict.Member.{Member}
 use Rattle.spacing.specs.declared.verdict.Frame.{Frame}
 use Rattle.spacing.specs.declared.verdict.Fault.{Fault}
-use Rattle.spacing.specs.Search.{partner, firstPair}
+use Rattle.spacing.specs.Search.{firstFrom, partner, firstPair}
 use Rattle.spacing.specs.Spacing.{
   along,
   across,
@@ -27,7 +27,7 @@ use Rattle.spacing.specs.Spacing.{
   Components,
 }
 use Rattle.spacing.specs.Limits.{PairLimit, EndLimit, closeBy, outside}
-use Rattle.spacing.specs.Verdict.{fault, pairFault, orElse, verdictIn, memberVerdict}
+use Rattle.spacing.specs.Verdict.{fault, oneDowel, pairFault, endFault, orElse, verdictIn, memberVerdict}
 use Rattle.spacing.proofs.Integers.{natAbs-neg}
 
 -- ---- a whole limit tests what the rule tests
@@ -37,7 +37,7 @@ pub close-same :
 close-same v d along a b l =
     fun-ext λ i. fun-ext λ j. ap (λ t. not (t || leb (30 * d) (distance b i j))) (sym (l .decides (distance a i j)))
 
-pub end-same :
+end-same :
     (v : Frame) (d low high : ℕ) (a : List ℤ) →
     EndLimit (leZ (pos 1) (negℤ (v .force))) d (square (v .sideways)) (squaredForce v) low →
     EndLimit (leZ (pos 1) (v .force)) d (square (v .sideways)) (squaredForce v) high →
@@ -66,12 +66,31 @@ pub no-pair :
 unfolding pairFault
 no-pair member v d a b n i test s e h = rw (← s, ← e) (passed i n _ _ h)
 
+pub end-found :
+    (member : ℕ) (v : Frame) (d under over : ℕ) (a : List ℤ) (n i : ℕ) (r : Fault) (low high : ℤ) →
+    i ≡ firstFrom (outside low high under over a) 0 n → low ≡ v .low → high ≡ v .high →
+    EndLimit (leZ (pos 1) (negℤ (v .force))) d (square (v .sideways)) (squaredForce v) under →
+    EndLimit (leZ (pos 1) (v .force)) d (square (v .sideways)) (squaredForce v) over →
+    r ≡ oneDowel 11 member i n → r ≡ endFault member v d a n
+unfolding endFault
+end-found member v d under over a n i r low high e p q l h o =
+    o ∙ ap (λ k. oneDowel 11 member k n)
+    (e ∙ ap₂ (λ s t. firstFrom (outside s t under over a) 0 n) p q ∙ ap (λ t. firstFrom t 0 n) (end-same v d under over a l h))
+
 -- ---- one fault after another
 pub the-first : (r f g : Fault) → r ≡ f → (r .number ≡ 0 → ⊥) → r ≡ orElse f g
 the-first r f g e h = rw (← e, ne-eqb (r .number) 0 h)
 
 pub the-second : (r f s g : Fault) → r ≡ f → r .number ≡ 0 → s ≡ g → s ≡ orElse f g
 the-second r f s g e h p = rw (← e, eq-eqb (r .number) 0 h) p
+
+-- a verdict of the same member under the same force
+pub same-verdict :
+    (r : Fault) (k k′ : ℕ) (m m′ : Member) (d : ℕ) (fx fx′ fy fy′ : ℤ) (x y : List ℤ) (n : ℕ) →
+    r ≡ memberVerdict k m d fx fy x y n → k ≡ k′ → m ≡ m′ → fx ≡ fx′ → fy ≡ fy′ →
+    r ≡ memberVerdict k′ m′ d fx′ fy′ x y n
+same-verdict r k k′ m m′ d fx fx′ fy fy′ x y n e p q s t =
+    e ∙ ap₂ (λ i j. memberVerdict i j d fx fy x y n) p q ∙ ap₂ (λ f g. memberVerdict k′ m′ d f g x y n) s t
 
 -- ---- a member's own directions
 force-size : (member : ℕ) (z : ℤ) → natAbs (forceIn member z) ≡ natAbs z

@@ -75,6 +75,9 @@ least-part-bound {k} {part} {total} {r} l h =
 pub root-small : (w total r : ℕ) → SquareRoot (w / total) r → r ≤ w
 root-small w total r s = le-trans (le-trans (below-square r) (s .low)) (div-le-self w total)
 
+pub same-square : (r : ℕ) (z z′ : ℤ) → r ≡ square z → z ≡ z′ → r ≡ square z′
+same-square r z z′ h e = h ∙ ap square e
+
 -- the squares of the components of a force
 pub record Squares (f g : ℤ) : Type 0 where
   pub x-small : square f ≤ 1000000000000

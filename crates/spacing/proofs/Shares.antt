@@ -1,13 +1,13 @@
 -- Laws of the share: which shares a row passes, and the greatest of them.
 -- Assumes nothing.
-use mathlib.Core.Path.{_≡_, refl, ap}
-use mathlib.Core.Bool.{Bool, true, false, cond}
+use mathlib.Core.Path.{_≡_, refl, sym, ap, _∙_}
+use mathlib.Core.Bool.{Bool, true, false, cond, true≢false}
 use Prim.Native.Nat.{ℕ, zero, suc, _+_, _*_, _^_, _≤_, _<_}
-use native.Mathlib.Nat.{mul-le-mul, mul-le-mul-left, mul-le-mul-right, le-trans, lt-of-lt-of-le, le-of-lt, lt-of-not-le, pow-le-pow-left, pow-suc, pow-zero, le-refl}
+use native.Mathlib.Nat.{mul-le-mul, mul-le-mul-left, mul-le-mul-right, le-trans, lt-of-lt-of-le, le-of-lt, lt-of-not-le, pow-le-pow-left, pow-suc, pow-zero, le-refl, le-of-mul-le-mul-right, mul-pos, mul-comm}
 use native.Mathlib.Decide.{decLe}
 use native.Mathlib.Omega.{arith}
 use borrow.Author.Tests.{le-leb, lt-leb, leb-true}
-use lib.Dec.{leb}
+use lib.Dec.{leb, lit≤}
 use lib.IntN.{ℤ}
 use mathlib.Core.List.{List}
 use native.Mathlib.Numerals.{add-one}
@@ -22,6 +22,10 @@ use Rattle.spacing.proofs.Sizes.{unit5, number2}
 pub fourth : (e : ℕ) → e * e * (e * e) ≡ e ^ 4
 fourth e = rw (pow-suc e 3, pow-suc e 2, pow-suc e 1, pow-suc e 0, pow-zero e) (omega arith)
 
+-- the test of a power at another name of its base
+pub power-tested : (b : Bool) (r s q n : ℕ) → b ≡ leb (r ^ 5 * q) n → r ≡ s → b ≡ leb (s ^ 5 * q) n
+power-tested b r s q n h e = h ∙ ap (λ z. leb (z ^ 5 * q) n) e
+
 power20 : {a b : ℕ} → a ≤ b → (a ^ 4) ^ 5 ≤ (b ^ 4) ^ 5
 power20 h = pow-le-pow-left (pow-le-pow-left h 4) 5
 
@@ -34,10 +38,10 @@ pub some-share : (q n e : ℕ) → n < (e ^ 4) ^ 5 * q → 0 < e
 some-share q n zero h = absurd (omega arith)
 some-share q n (suc e) h = omega arith
 
--- (130 d)^5 n² has 73 bits
-pub factor-within : {d n : ℕ} → d ≤ 30 → n ≤ 64 → FactorWithin ((130 * d) ^ 5 * (n * n))
+-- n² (130 d)^5 has 73 bits
+pub factor-within : {d n : ℕ} → d ≤ 30 → n ≤ 64 → FactorWithin (n * n * (130 * d) ^ 5)
 factor-within {d} {n} h m = record {
-  high = rw (← (fifth-is (130 * d))) (lt-of-lt-of-le (product-bits 60 13 (unit5 h) (number2 m)) (omega arith));
+  high = rw (← (fifth-is (130 * d))) (lt-of-lt-of-le (product-bits 13 60 (number2 m) (unit5 h)) (omega arith));
 }
 
 -- ---- the shares that a row passes
@@ -54,9 +58,28 @@ pub nothing-passes : (d n a : ℕ) → rowPasses d n a 0 ≡ true
 unfolding rowPasses
 nothing-passes d n a = le-leb ((0 ^ 4) ^ 5 * ((130 * d) ^ 5 * (n * n))) (units * a ^ 5) (omega arith)
 
-pub no-dowels-pass : (d e : ℕ) → rowPasses d 0 0 e ≡ true
+-- the whole of a lone dowel passes
+pub lone-passes : (d : ℕ) → d ≤ 30 → rowPasses d 1 200000 10000 ≡ true
+unfolding rowPasses units
+lone-passes d h =
+    let l : 130 * d ≤ 200000 = omega arith in
+    let q : (130 * d) ^ 5 ≤ 200000 ^ 5 = pow-le-pow-left l 5 in
+    let r : (130 * d) ^ 5 * (1 * 1) ≤ 200000 ^ 5 = omega (arith, q) in
+    le-leb _ _ (mul-le-mul-left ((10000 ^ 4) ^ 5) r)
+
+crossed :
+    (P Q U n n′ A A′ : ℕ) → 1 ≤ n → n′ * n′ * A ≤ n * n * A′ → P * (Q * (n * n)) ≤ U * A → P * (Q * (n′ * n′)) ≤ U * A′
+crossed P Q U n n′ A A′ s h p =
+    le-of-mul-le-mul-right {k = n * n}
+    (omega (arith, mul-le-mul-right (n′ * n′) p, mul-le-mul-left U h))
+    (mul-pos s s)
+
+-- a row whose n²/a^5 is no greater passes what the other passes
+lighter :
+    (d n a n′ a′ e : ℕ) → 1 ≤ n → n′ * n′ * a ^ 5 ≤ n * n * a′ ^ 5 → rowPasses d n a e ≡ true → rowPasses d n′ a′ e ≡ true
 unfolding rowPasses
-no-dowels-pass d e = le-leb ((e ^ 4) ^ 5 * ((130 * d) ^ 5 * (0 * 0))) (units * 0 ^ 5) (omega arith)
+lighter d n a n′ a′ e s h p =
+    le-leb _ _ (crossed ((e ^ 4) ^ 5) ((130 * d) ^ 5) units n n′ (a ^ 5) (a′ ^ 5) s h (leb-true _ _ p))
 
 -- ---- the greatest number that passes a test
 pub greatest-here : (test : ℕ → Bool) (e : ℕ) → test e ≡ true → e ≡ greatestTo test e
@@ -94,6 +117,27 @@ unfolding greatestTo
 greatest-passes test zero h = h
 greatest-passes test (suc e) h = passes-by test (test (suc e)) (suc e) (greatestTo test e) refl (greatest-passes test e h)
 
+within-by :
+    (test other : ℕ → Bool) (e : ℕ) (b : Bool) → test (suc e) ≡ b → (other (suc e) ≡ true → test (suc e) ≡ true) →
+    greatestTo other (greatestTo test e) ≡ greatestTo other e →
+    greatestTo other (cond b (suc e) (greatestTo test e)) ≡ cond (other (suc e)) (suc e) (greatestTo other e)
+unfolding greatestTo
+within-by test other e true t f ih = refl
+within-by test other e false t f ih = rw (fails (other (suc e)) refl) ih
+  where
+    fails : (b : Bool) → other (suc e) ≡ b → other (suc e) ≡ false
+    fails true h = absurd (true≢false (sym (f h) ∙ t))
+    fails false h = h
+
+-- a test that passes no more need not start lower
+greatest-within :
+    (test other : ℕ → Bool) (e : ℕ) → ((k : ℕ) → other k ≡ true → test k ≡ true) →
+    greatestTo other (greatestTo test e) ≡ greatestTo other e
+unfolding greatestTo
+greatest-within test other zero f = refl
+greatest-within test other (suc e) f =
+    within-by test other e (test (suc e)) refl (f (suc e)) (greatest-within test other e f)
+
 above-by :
     (test : ℕ → Bool) (e r : ℕ) (b : Bool) → test (suc e) ≡ b → r ≤ e → (r < e → test (r + 1) ≡ false) →
     cond b (suc e) r < suc e → test (cond b (suc e) r + 1) ≡ false
@@ -113,19 +157,34 @@ greatest-above test (suc e) h =
 
 -- the greatest share of a row, by its bracket
 pub row-floor :
-    (d n a share q m r : ℕ) → q ≡ (130 * d) ^ 5 * (n * n) → m ≡ units * a ^ 5 → GreatestShare q m 0 share r →
+    (d n a share q m r : ℕ) → q ≡ n * n * (130 * d) ^ 5 → m ≡ units * a ^ 5 → GreatestShare q m 0 share r →
     r ≡ greatestTo (rowPasses d n a) share
 unfolding rowPasses
 row-floor d n a share q m r eq em g =
+    let e = eq ∙ mul-comm (n * n) ((130 * d) ^ 5) in
     greatest-found _ r share (le-of-lt (g .below))
-    (le-leb _ _ (rw (eq, em) at (g .low)))
-    (λ k h l. lt-leb _ _ (lt-of-lt-of-le (rw (eq, em) at (g .high)) (mul-le-mul-right ((130 * d) ^ 5 * (n * n)) (power20 (omega arith)))))
+    (le-leb _ _ (rw (e, em) at (g .low)))
+    (λ k h l. lt-leb _ _ (lt-of-lt-of-le (rw (e, em) at (g .high)) (mul-le-mul-right ((130 * d) ^ 5 * (n * n)) (power20 (omega arith)))))
 
 -- the test in wide numbers is the row's test
 pub row-tested :
-    (d n a e q m : ℕ) → q ≡ (130 * d) ^ 5 * (n * n) → m ≡ units * a ^ 5 → leb ((e ^ 4) ^ 5 * q) m ≡ rowPasses d n a e
+    (d n a e q m : ℕ) → q ≡ n * n * (130 * d) ^ 5 → m ≡ units * a ^ 5 → leb ((e ^ 4) ^ 5 * q) m ≡ rowPasses d n a e
 unfolding rowPasses
-row-tested d n a e q m eq em = rw (eq, em)
+row-tested d n a e q m eq em = rw (eq ∙ mul-comm (n * n) ((130 * d) ^ 5), em)
+
+-- of two rows the one with the greater n²/a^5 decides
+pub first-decides :
+    (d n a n′ a′ : ℕ) → 1 ≤ n → n′ * n′ * a ^ 5 ≤ n * n * a′ ^ 5 →
+    greatestTo (rowPasses d n a) 10000 ≡ greatestTo (rowPasses d n′ a′) (greatestTo (rowPasses d n a) 10000)
+first-decides d n a n′ a′ s h =
+    greatest-here (rowPasses d n′ a′) (greatestTo (rowPasses d n a) 10000)
+    (lighter d n a n′ a′ _ s h (greatest-passes (rowPasses d n a) 10000 (nothing-passes d n a)))
+
+pub second-decides :
+    (d n a n′ a′ : ℕ) → 1 ≤ n′ → n * n * a′ ^ 5 ≤ n′ * n′ * a ^ 5 →
+    greatestTo (rowPasses d n′ a′) 10000 ≡ greatestTo (rowPasses d n′ a′) (greatestTo (rowPasses d n a) 10000)
+second-decides d n a n′ a′ s h =
+    sym (greatest-within (rowPasses d n a) (rowPasses d n′ a′) 10000 (λ k. lighter d n′ a′ n a k s h))
 
 -- one more row
 pub shares-on :

@@ -13,13 +13,13 @@ use Rattle.spacing.specs.Share.{units}
 
 -- 130 d and its powers
 module _ {d : ℕ} (h : d ≤ 30) where
-  pub unit : 130 * d ≤ 3900
+  unit : 130 * d ≤ 3900
   unit = omega arith
 
-  pub unit2 : 130 * d * (130 * d) ≤ 15210000
+  unit2 : 130 * d * (130 * d) ≤ 15210000
   unit2 = mul-le-mul unit unit
 
-  pub unit4 : 130 * d * (130 * d) * (130 * d * (130 * d)) ≤ 231344100000000
+  unit4 : 130 * d * (130 * d) * (130 * d * (130 * d)) ≤ 231344100000000
   unit4 = mul-le-mul unit2 unit2
 
   pub unit5 : 130 * d * (130 * d) * (130 * d * (130 * d)) * (130 * d) < 2 ^ 60

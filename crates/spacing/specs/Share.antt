@@ -8,7 +8,6 @@ use lib.IntN.{ℤ}
 use Rattle.strength.specs.Roots.{FactorWithin}
 use Rattle.spacing.specs.declared.verdict.Member.{Member}
 use Rattle.spacing.specs.declared.rows.Row.{Row}
-use Rattle.spacing.specs.declared.share.Least.{Least}
 use Rattle.spacing.specs.declared.share.Shares.{Shares}
 use Rattle.spacing.specs.Spacing.{along, across}
 use Rattle.spacing.specs.Rows.{rowNumber, rowDistance, nearest}
@@ -48,12 +47,11 @@ abbrev pub rowShare : Member → Member → ℕ → List ℤ → List ℤ → �
 rowShare m₁ m₂ d x y count = min (shareOf m₁ d x y count) (shareOf m₂ d x y count)
 
 -- ---- what the parts answer
--- a row and a share of it are within the limits of a record
-pub record RowGiven (d share n a1 : ℕ) : Type 0 where
-  pub thick : d ≤ 30
-  pub top : share ≤ 10000
-  pub most : n ≤ 64
-  pub far : a1 ≤ 200000
+-- a row is within the limits of a record
+pub record RowWithin (row : Row) : Type 0 where
+  pub some : 1 ≤ row .number
+  pub most : row .number ≤ 64
+  pub far : row .nearest ≤ 200000
 
 -- the greatest e with e^20 q ≤ n is at least lo and below hi
 pub record BetweenShares (q n lo hi : ℕ) : Type 0 where
@@ -69,14 +67,13 @@ pub record GreatestShare (q n lo hi r : ℕ) : Type 0 where
   pub low : (r ^ 4) ^ 5 * q ≤ n
   pub high : n < ((r + 1) ^ 4) ^ 5 * q
 
--- the share passes the row that is kept with it
-pub record Lowest (d : ℕ) (s : Least) : Type 0 where
-  pub within : RowGiven d (s .share) (s .number) (s .nearest)
-  pub passing : rowPasses d (s .number) (s .nearest) (s .share) ≡ true
-
-pub record Lowered (d : ℕ) (s : Least) (row : Row) (r : Least) : Type 0 where
-  pub share : r .share ≡ greatestTo (rowPasses d (row .number) (row .nearest)) (s .share)
-  pub lowest : Lowest d r
+-- the share of r is that of `worst` lowered by `row`
+pub record Decides (worst row r : Row) : Type 0 where
+  pub within : RowWithin r
+  pub both :
+      (d : ℕ) →
+      greatestTo (rowPasses d (r .number) (r .nearest)) 10000
+      ≡ greatestTo (rowPasses d (row .number) (row .nearest)) (greatestTo (rowPasses d (worst .number) (worst .nearest)) 10000)
 
 -- the share lowered by the rows of the first k dowels, each with the dowel nearest to it
 unfoldable pub sharesTo : ℕ → List ℤ → List ℤ → ℕ → ℕ → ℕ

@@ -7,7 +7,7 @@ ghost use Rattle.spacing.specs.Rows.{rowNumber, nearest};
 use crate::signed;
 
 // No two dowels of a record lie farther apart.
-const FARTHEST: u64 = 200000;
+pub const FARTHEST: u64 = 200000;
 
 // The row of a dowel: its number of dowels, and the distance along to the nearest other one.
 pub struct Row {

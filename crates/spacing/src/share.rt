@@ -7,13 +7,12 @@ ghost use Rattle.strength.specs.Roots.{FactorWithin};
 ghost use Rattle.spacing.specs.Rows.{RowsGiven};
 ghost use Rattle.spacing.specs.Share.{
   units,
-  RowGiven,
+  RowWithin,
   BetweenShares,
   GreatestShare,
   greatestTo,
   rowPasses,
-  Lowest,
-  Lowered,
+  Decides,
   sharesTo,
   shareOf,
   sharesOf,
@@ -25,13 +24,6 @@ use strength::roots;
 
 // Ten-thousandths of the whole.
 const WHOLE: u64 = 10000;
-
-// The share so far, and a row that it was found to pass.
-pub struct Least {
-    pub share: u64,
-    pub number: u64,
-    pub nearest: u64,
-}
 
 // The shares of both members, in ten-thousandths.
 pub struct Shares {
@@ -52,20 +44,13 @@ const UNITS: [u32; 9] = [
     863,
 ];
 
-// (130 d)^5 n².
-fn factor(d: u64, number: u64) -> [u32; 3]
-    requires { ⌜ (d ≤ 30) × (number ≤ 64) ⌝ }
-    ensures { λ r. ⌜ value r ≡ (130 * d) ^ 5 * (number * number) ⌝ }
+// number² length^5.
+fn product(number: u64, length: u64) -> [u32; 4]
+    requires { ⌜ (number ≤ 64) × (length ≤ 200000) ⌝ }
+    ensures { λ r. ⌜ value r ≡ number * number * length ^ 5 ⌝ }
 {
-    let unit = 130 * d;
-    let square = unit * unit;
-    let mut product = [0u32; 3];
-    wide::multiply_add_u64(
-        &mut product,
-        &wide::from_u64(square * square * unit),
-        number * number,
-    );
-    product
+    let square = length * length;
+    wide::product_u64(number * number * square, square * length)
 }
 
 // 10,000^20 a1^5.
@@ -73,12 +58,10 @@ fn scaled(a1: u64) -> [u32; 12]
     requires { ⌜ a1 ≤ 200000 ⌝ }
     ensures { λ r. ⌜ value r ≡ units * a1 ^ 5 ⌝ }
 {
-    let square = a1 * a1;
-    let mut power = [0u32; 3];
-    wide::multiply_add_u64(&mut power, &wide::from_u64(square * a1), square);
-    let mut product = [0u32; 12];
-    wide::multiply_add(&mut product, &UNITS, &power);
-    product
+    let power = product(1, a1);
+    let mut scaled = [0u32; 12];
+    wide::multiply_add(&mut scaled, &UNITS, &power);
+    scaled
 }
 
 // Whether e^20 q is at most n.
@@ -107,43 +90,35 @@ fn greatest_between(q: &[u32], n: &[u32], lo: u64, hi: u64) -> u64
     }
 }
 
-// The greatest share, up to `share`, that a row passes.
-fn lowered(d: u64, share: u64, number: u64, nearest: u64) -> u64
-    requires { ⌜ RowGiven d share number nearest ⌝ }
-    ensures { λ r. ⌜ r ≡ greatestTo (rowPasses d number nearest) share ⌝ }
+// The greatest share that a row passes.
+fn row_share(d: u64, row: Row) -> u64
+    requires { ⌜ (d ≤ 30) × RowWithin row ⌝ }
+    ensures { λ r. ⌜ r ≡ greatestTo (rowPasses d (row .number) (row .nearest)) 10000 ⌝ }
 {
-    let q = factor(d, number);
-    let n = scaled(nearest);
-    if passes(share, &q, &n) {
-        return share;
+    let q = product(row.number, 130 * d);
+    let n = scaled(row.nearest);
+    if passes(WHOLE, &q, &n) {
+        return WHOLE;
     }
-    greatest_between(&q, &n, 0, share)
+    greatest_between(&q, &n, 0, WHOLE)
 }
 
-// The least share after one more row, with that row.
-fn with_row(d: u64, least: Least, row: Row) -> Least
-    requires { ⌜ (Lowest d least) × RowGiven d 0 (row .number) (row .nearest) ⌝ }
-    ensures { λ r. ⌜ Lowered d least row r ⌝ }
+// Of two rows the one that passes fewer shares: the greater number² / nearest^5. A row no longer and no closer needs no powers.
+fn deciding(worst: Row, row: Row) -> Row
+    requires { ⌜ RowWithin worst × RowWithin row ⌝ }
+    ensures { λ r. ⌜ Decides worst row r ⌝ }
 {
-    Least {
-        share: lowered(d, least.share, row.number, row.nearest),
-        number: row.number,
-        nearest: row.nearest,
+    if row.number <= worst.number {
+        if worst.nearest <= row.nearest {
+            return worst;
+        }
     }
-}
-
-// The same. A row that is no longer and no closer than one that passed passes too.
-fn after_row(d: u64, least: Least, row: Row) -> Least
-    requires { ⌜ (Lowest d least) × RowGiven d 0 (row .number) (row .nearest) ⌝ }
-    ensures { λ r. ⌜ Lowered d least row r ⌝ }
-{
-    if least.number < row.number {
-        return with_row(d, least, row);
+    let there = product(row.number, worst.nearest);
+    let here = product(worst.number, row.nearest);
+    if wide::at_most(&there, &here) {
+        return worst;
     }
-    if row.nearest < least.nearest {
-        return with_row(d, least, row);
-    }
-    least
+    row
 }
 
 // The share of the rows of a member, with the dowels' coordinates along and across its grain.
@@ -151,17 +126,16 @@ fn share_in(d: u64, a: &[i32; 64], b: &[i32; 64], count: usize) -> u64
     requires { ⌜ RowsGiven d count ⌝ }
     ensures { λ r. ⌜ r ≡ sharesTo d (now (a .entry)) (now (b .entry)) count count ⌝ }
 {
-    let mut least = Least {
-        share: WHOLE,
-        number: 0,
-        nearest: 0,
+    let mut worst = Row {
+        number: 1,
+        nearest: rows::FARTHEST,
     };
     let mut i = 0;
     while i < count {
-        least = after_row(d, least, rows::row_of(a, b, count, i));
+        worst = deciding(worst, rows::row_of(a, b, count, i));
         i += 1;
     }
-    least.share
+    row_share(d, worst)
 }
 
 // The share of a member.

@@ -1,6 +1,7 @@
 // Runs the spacing verdict and the shares on the joints of standard input, one line a joint.
 // A number is a sign and seven digits with one space or line end after it: nine bytes. A joint is d fx fy, then grain x0 y0 x1
-// y1 of member 1 and of member 2, then the number of dowels, and x y of each.
+// y1 of member 1 and of member 2, then the number of dowels, and x y of each. Then the shares of the rows of 001's
+// Table 13-2, as 001 prints them.
 ghost use Prim.Native.Nat.{_+_, _*_, _≤_};
 ghost use lib.ListN.{length};
 use libc::STDIN_FILENO;
@@ -170,8 +171,62 @@ fn joints(s: &[u8]) {
     }
 }
 
+// n times a share, to the nearest of units of `unit` ten-thousandths.
+fn rounded(share: u64, n: u64, unit: u64) -> u64
+    requires { ⌜ (share ≤ 10002) × (n ≤ 10) × (1 ≤ unit) × (unit ≤ 100) ⌝ }
+{
+    (share * n + unit / 2) / unit
+}
+
+// A row of n dowels 5 d apart, d = 12 mm: E n/10,000 and (E + 2) n/10,000 in hundredths, and E/10,000 in thousandths.
+fn row(n: usize)
+    requires { ⌜ (1 ≤ n) × (n ≤ 10) ⌝ }
+{
+    let mut x = [0i32; 64];
+    x[1] = 600;
+    x[2] = 1200;
+    x[3] = 1800;
+    x[4] = 2400;
+    x[5] = 3000;
+    x[6] = 3600;
+    x[7] = 4200;
+    x[8] = 4800;
+    x[9] = 5400;
+    let m = Member {
+        grain: 0,
+        x0: 0,
+        y0: 0,
+        x1: 0,
+        y1: 0,
+    };
+    let share = share::member_share(m, 12, x, [0i32; 64], n);
+    if 10000 < share {
+        return;
+    }
+    print(rounded(share, n as u64, 100));
+    print(rounded(share + 2, n as u64, 100));
+    print(rounded(share, 1, 10));
+    io::write_all(STDOUT_FILENO, b"\n");
+}
+
+// 001, Table 13-2, the row of 0 degrees, n from 2 to 10: `stdout` has n_ef, again n_ef, and n_ef/n as 001 prints them. The other
+// rows of the table follow from 001's (13.2), "für 0° ≤ α ≤ 90° wird n_ef linear interpoliert", up to n_ef = n at 90 degrees. 01
+// takes the effective number of 0 degrees at every angle, so no share speaks of them.
+fn table_13_2() {
+    row(2);
+    row(3);
+    row(4);
+    row(5);
+    row(6);
+    row(7);
+    row(8);
+    row(9);
+    row(10);
+}
+
 fn main() {
     let mut text = io::large_buffer();
     let n = io::read_full(STDIN_FILENO, &mut text);
     joints(&text[..n]);
+    table_13_2();
 }

@@ -1,8 +1,9 @@
 -- `row_of` meets its contract. The loop's invariant: the number and the least distance are those of the dowels passed.
 -- Assumes nothing.
 use denote.Ref.{now}
-use mathlib.Core.Path.{_≡_, sym, _∙_}
+use mathlib.Core.Path.{_≡_, sym, ap₂, _∙_}
 use Prim.Native.Nat.{_≤_, _-_}
+use lib.IntN.{natAbs, _-ℤ_}
 use mir.Syntax.{w32}
 use mir.Val.{SFits}
 use mir.Facts.{toZ-ofZ}
@@ -25,34 +26,34 @@ loop-holds : tie.Need-loop-holds Inv-loop μ-loop
 loop-holds c = (omega arith, count-none _, least-none _ _)
 
 mul-apart : tie.Need-mul-apart Inv-loop μ-loop
-mul-apart c = search needs
+mul-apart c = omega arith
 
 element-copy-out-apart : tie.Need-element-copy-out-apart Inv-loop μ-loop
-element-copy-out-apart c = search needs
+element-copy-out-apart c = omega arith
 
 mul-apart-2 : tie.Need-mul-apart-2 Inv-loop μ-loop
-mul-apart-2 c = search needs
+mul-apart-2 c = omega arith
 
 element-copy-out-apart-2 : tie.Need-element-copy-out-apart-2 Inv-loop μ-loop
-element-copy-out-apart-2 c = search needs
+element-copy-out-apart-2 c = omega arith
 
 apart-requires : tie.Need-apart-requires Inv-loop μ-loop
-apart-requires c κs = search needs
+apart-requires c κs = tt
 
 mul-apart-3 : tie.Need-mul-apart-3 Inv-loop μ-loop
-mul-apart-3 c = search needs
+mul-apart-3 c = omega arith
 
 element-copy-out-apart-3 : tie.Need-element-copy-out-apart-3 Inv-loop μ-loop
-element-copy-out-apart-3 c = search needs
+element-copy-out-apart-3 c = omega arith
 
 mul-apart-4 : tie.Need-mul-apart-4 Inv-loop μ-loop
-mul-apart-4 c = search needs
+mul-apart-4 c = omega arith
 
 element-copy-out-apart-4 : tie.Need-element-copy-out-apart-4 Inv-loop μ-loop
-element-copy-out-apart-4 c = search needs
+element-copy-out-apart-4 c = omega arith
 
 apart-requires-2 : tie.Need-apart-requires-2 Inv-loop μ-loop
-apart-requires-2 c κs = search needs
+apart-requires-2 c κs = tt
 
 across-is :
     (c : tie.After-apart Inv-loop μ-loop) →
@@ -63,7 +64,7 @@ across-is c =
     let j = c .before .before .before .before .loop .j in
     let p : SFits w32 (place (now (k .b)) (k .i)) = search needs in
     let q : SFits w32 (place (now (k .b)) j) = search needs in
-    simp (toZ-ofZ p, toZ-ofZ q) at (c .apart .ensures)
+    c .apart .ensures ∙ ap₂ (λ x y. natAbs (x -ℤ y)) (toZ-ofZ p) (toZ-ofZ q)
 
 along-is :
     (c : tie.After-apart2 Inv-loop μ-loop) →
@@ -74,16 +75,16 @@ along-is c =
     let j = c .before .before .before .before .before .before .before .loop .j in
     let p : SFits w32 (place (now (k .a)) (k .i)) = search needs in
     let q : SFits w32 (place (now (k .a)) j) = search needs in
-    simp (toZ-ofZ p, toZ-ofZ q) at (c .apart2 .ensures)
+    c .apart2 .ensures ∙ ap₂ (λ x y. natAbs (x -ℤ y)) (toZ-ofZ p) (toZ-ofZ q)
 
 counted-requires : tie.Need-counted-requires Inv-loop μ-loop
 counted-requires c κs = omega (arith, count-bound (sameRow (now (c .before .before .before .before .before .before .before .before .args .b)) (c .before .before .before .before .before .before .before .before .args .i)) (c .before .before .before .before .before .before .before .loop .j))
 
 narrowed-requires : tie.Need-narrowed-requires Inv-loop μ-loop
-narrowed-requires c κs = search needs
+narrowed-requires c κs = tt
 
 add-j : tie.Need-add-j Inv-loop μ-loop
-add-j c = search needs
+add-j c = omega arith
 
 loop-less : tie.Need-loop-less Inv-loop μ-loop
 loop-less c = omega arith

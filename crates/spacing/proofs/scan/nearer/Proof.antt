@@ -1,5 +1,7 @@
 -- `nearer` meets its contract.
 -- Assumes nothing.
+use Prim.Native.Nat.{_<_, _≤_}
+use native.Mathlib.Omega.{arith}
 use lib.IntN.{natAbs, _-ℤ_}
 use mir.Facts.{toZ-ofZ}
 use Rattle.spacing.proofs.Limits.{nearer-along, far-along}
@@ -17,8 +19,8 @@ returns c =
     let f = c .before .before .before .fits in
     let e = simp (toZ-ofZ (f .p), toZ-ofZ (f .q)) at (c .before .before .apart .ensures) in
     let g = simp (toZ-ofZ (f .s), toZ-ofZ (f .t)) at (c .apart2 .ensures) in
-    let h = rw e at (c .before .if1 .taken) in
     let v = c .before .before .before .args in
+    let h : natAbs (v .p -ℤ v .q) < v .along = omega (arith, e) in
     rw g (nearer-along (v .along) (v .across) (natAbs (v .p -ℤ v .q)) (natAbs (v .s -ℤ v .t)) h)
 
 returns-2 : tie.Need-returns-2
@@ -26,7 +28,8 @@ returns-2 c =
     let f = c .before .before .fits in
     let e = simp (toZ-ofZ (f .p), toZ-ofZ (f .q)) at (c .before .apart .ensures) in
     let v = c .before .before .args in
-    far-along (v .along) (v .across) (natAbs (v .p -ℤ v .q)) (natAbs (v .s -ℤ v .t)) (rw e at (c .if1 .left))
+    let h : v .along ≤ natAbs (v .p -ℤ v .q) = omega (arith, e) in
+    far-along (v .along) (v .across) (natAbs (v .p -ℤ v .q)) (natAbs (v .s -ℤ v .t)) h
 
 pub nearer-spec : {M : Type 1} → statement M
 nearer-spec = tie.close (tie.spec apart-requires apart-requires-2 returns returns-2)

@@ -2,15 +2,16 @@
 -- Assumes nothing.
 use borrow.Author.Needs.{needs}
 use denote.Ref.{now}
-use mathlib.Core.Path.{_≡_, refl, sym, _∙_}
+use mathlib.Core.Path.{_≡_, refl, sym, ap₂, _∙_}
 use Prim.Native.Nat.{_≤_, _-_}
 use native.Mathlib.Omega.{arith}
+use lib.IntN.{natAbs, _-ℤ_}
 use mir.Syntax.{w32}
 use mir.Val.{SFits}
 use mir.Facts.{toZ-ofZ}
 use Rattle.spacing.specs.Search.{firstFrom, partner}
 use Rattle.spacing.specs.Spacing.{place}
-use Rattle.spacing.specs.Limits.{closeBy}
+use Rattle.spacing.specs.Limits.{nearerBy, closeBy}
 use Rattle.spacing.proofs.Search.{first-on, first-hit, first-end}
 use Rattle.spacing.proofs.scan.partner.Statement.{statement}
 use Rattle.spacing.proofs.scan.partner.Tie as tie
@@ -69,7 +70,10 @@ answers c =
     let aj : SFits w32 (place (now (k .a)) j) = search needs in
     let bi : SFits w32 (place (now (k .b)) (k .i)) = search needs in
     let bj : SFits w32 (place (now (k .b)) j) = search needs in
-    simp (toZ-ofZ ai, toZ-ofZ aj, toZ-ofZ bi, toZ-ofZ bj) at (c .nearer .ensures)
+    c .nearer .ensures
+    ∙ ap₂ (nearerBy (k .along) (k .across))
+    (ap₂ (λ x y. natAbs (x -ℤ y)) (toZ-ofZ ai) (toZ-ofZ aj))
+    (ap₂ (λ x y. natAbs (x -ℤ y)) (toZ-ofZ bi) (toZ-ofZ bj))
 
 returns : tie.Need-returns Inv-loop μ-loop
 returns c =

@@ -1,11 +1,15 @@
 -- `passes` meets its contract: e^4 has 64 bits.
 -- Assumes nothing.
 use native.Mathlib.Nat.{mul-le-mul}
-use Rattle.spacing.proofs.Shares.{fourth}
+use Rattle.spacing.proofs.Shares.{fourth, power-tested}
 use native.Mathlib.Omega.{arith}
 use borrow.Author.Needs.{needs}
 use Rattle.spacing.proofs.share.passes.Statement.{statement}
 use Rattle.spacing.proofs.share.passes.Tie as tie
+
+returns : tie.Need-returns
+returns c =
+    power-tested _ _ _ _ _ (c .fifth-power-at-most .ensures) (fourth (c .before .before .before .args .e))
 
 mul-square : tie.Need-mul-square
 mul-square c = record { fits = omega (arith, mul-le-mul (c .before .before .pre .0) (c .before .before .pre .0)) }
@@ -17,9 +21,6 @@ mul-fifth-power-at-most c = record {
 
 fifth-power-at-most-requires : tie.Need-fifth-power-at-most-requires
 fifth-power-at-most-requires c κs = search needs
-
-returns : tie.Need-returns
-returns c = rw (fourth (c .before .before .before .args .e)) at (c .fifth-power-at-most .ensures)
 
 pub passes-spec : {M : Type 1} → statement M
 passes-spec =

@@ -1,4 +1,4 @@
--- `share_in` meets its contract. The loop's invariant: the share is that of the dowels passed, and passes the row kept with it.
+-- `share_in` meets its contract. The loop's invariant: the row kept has the share of the dowels passed.
 -- Assumes nothing.
 use denote.Ref.{now}
 use mathlib.Core.Path.{_≡_, sym, _∙_}
@@ -6,44 +6,43 @@ use Prim.Native.Nat.{_≤_, _-_}
 use lib.Dec.{lit≤}
 use Rattle.spacing.specs.Spacing.{distance}
 use Rattle.spacing.specs.Rows.{sameRow, other}
-use Rattle.spacing.specs.Share.{Lowest, sharesTo}
+use Rattle.spacing.specs.Share.{RowWithin, rowPasses, greatestTo, sharesTo}
 use Rattle.spacing.proofs.Counting.{count-bound, least-bound}
-use Rattle.spacing.proofs.Shares.{no-dowels-pass, shares-none, shares-on}
+use Rattle.spacing.proofs.Members.{row-some}
+use Rattle.spacing.proofs.Shares.{greatest-here, lone-passes, shares-none, shares-on}
 use borrow.Author.Needs.{needs}
 use native.Mathlib.Omega.{arith}
 use Rattle.spacing.proofs.share.share_in.Statement.{statement}
 use Rattle.spacing.proofs.share.share_in.Tie as tie
 
 abbrev Inv-loop : tie.InvT-loop
-Inv-loop d a b count least₀ i₀ least i =
-    (i ≤ count) × Lowest d least × (least .share ≡ sharesTo d a b count i)
+Inv-loop d a b count worst₀ i₀ worst i =
+    (i ≤ count) × RowWithin worst
+    × (greatestTo (rowPasses d (worst .number) (worst .nearest)) 10000 ≡ sharesTo d a b count i)
 
 abbrev μ-loop : tie.MeasureT-loop
-μ-loop d a b count least₀ i₀ least i = count - i
+μ-loop d a b count worst₀ i₀ worst i = count - i
 
 loop-holds : tie.Need-loop-holds Inv-loop μ-loop
 loop-holds c = (
   omega arith,
-  record {
-    within = record { thick = c .pre .thick; top = lit≤ tt; most = lit≤ tt; far = lit≤ tt };
-    passing = no-dowels-pass (c .args .d) 10000;
-  },
-  shares-none _ _ _ _,
+  record { some = lit≤ tt; most = lit≤ tt; far = lit≤ tt },
+  sym (greatest-here (rowPasses (c .args .d) 1 200000) 10000 (lone-passes (c .args .d) (c .pre .thick)))
+      ∙ shares-none _ _ _ _,
 )
 
 row-of-requires : tie.Need-row-of-requires Inv-loop μ-loop
 row-of-requires c κs = search needs
 
-after-row-requires : tie.Need-after-row-requires Inv-loop μ-loop
-after-row-requires c κs =
+deciding-requires : tie.Need-deciding-requires Inv-loop μ-loop
+deciding-requires c κs =
     let v = c .before .before .before .args in
     let i = c .before .before .loop .i in
     let n = count-bound (sameRow (now (v .b)) i) (v .count) in
     let m = least-bound (other (now (v .b)) i) (distance (now (v .a)) i) (v .count) in (
       c .before .before .loop .inv .1,
       record {
-        thick = c .before .before .before .pre .thick;
-        top = omega arith;
+        some = rw (c .row-of .ensures .0) (row-some (now (v .b)) (v .count) i (omega arith));
         most = rw (c .row-of .ensures .0) (omega (arith, c .before .before .before .pre .most));
         far = rw (c .row-of .ensures .1) m;
       },
@@ -58,17 +57,21 @@ loop-less c = omega arith
 loop-again : tie.Need-loop-again Inv-loop μ-loop
 loop-again c =
     let l = c .before .before .before .loop in
-    let e = c .after-row .ensures in (
+    let e = c .deciding .ensures in (
       omega arith,
-      e .lowest,
-      (rw (c .before .row-of .ensures .0, c .before .row-of .ensures .1, l .inv .2) at (e .share)) ∙ sym (shares-on _ _ _ _ (l .i)),
+      e .within,
+      (rw (c .before .row-of .ensures .0, c .before .row-of .ensures .1, l .inv .2) at (e .both (c .before .before .before .before .args .d)))
+          ∙ sym (shares-on _ _ _ _ (l .i)),
     )
+
+row-share-requires : tie.Need-row-share-requires Inv-loop μ-loop
+row-share-requires c κs = (c .before .before .pre .thick, c .before .loop .inv .1)
 
 returns : tie.Need-returns Inv-loop μ-loop
 returns c =
-    let l = c .before .loop in
-    let e : l .i ≡ c .before .before .args .count = omega arith in
-    rw e at (l .inv .2)
+    let l = c .before .before .loop in
+    let e : l .i ≡ c .before .before .before .args .count = omega arith in
+    c .row-share .ensures ∙ (rw e at (l .inv .2))
 
 pub share-in-spec : {M : Type 1} → statement M
 share-in-spec =
@@ -78,8 +81,9 @@ share-in-spec =
     μ-loop
     loop-holds
     row-of-requires
-    after-row-requires
+    deciding-requires
     add-i
     loop-less
     loop-again
+    row-share-requires
     returns)

@@ -1,15 +1,19 @@
--- `lowered` meets its contract.
+-- `row_share` meets its contract.
 -- Assumes nothing.
+use lib.Dec.{lit≤}
 use borrow.Author.Tests.{leb-false}
 use mathlib.Core.Path.{sym, _∙_}
-use Rattle.spacing.proofs.Shares.{factor-within, row-tested, greatest-here, some-share, row-floor}
+use Rattle.spacing.proofs.Shares.{factor-within, row-tested, greatest-here, row-floor}
 use native.Mathlib.Omega.{arith}
 use borrow.Author.Needs.{needs}
-use Rattle.spacing.proofs.share.lowered.Statement.{statement}
-use Rattle.spacing.proofs.share.lowered.Tie as tie
+use Rattle.spacing.proofs.share.row_share.Statement.{statement}
+use Rattle.spacing.proofs.share.row_share.Tie as tie
 
-factor-requires : tie.Need-factor-requires
-factor-requires c κs = search needs
+mul-product : tie.Need-mul-product
+mul-product c = search needs
+
+product-requires : tie.Need-product-requires
+product-requires c κs = search needs
 
 scaled-requires : tie.Need-scaled-requires
 scaled-requires c κs = search needs
@@ -21,13 +25,15 @@ slice-aggregate-passes-2 : tie.Need-slice-aggregate-passes-2
 slice-aggregate-passes-2 c = search needs
 
 passes-requires : tie.Need-passes-requires
-passes-requires c κs = (c .before .before .before .before .pre .top, rw (c .before .before .before .factor .ensures) (factor-within (c .before .before .before .before .pre .thick) (c .before .before .before .before .pre .most)))
+passes-requires c κs =
+    let k = c .before .before .before .before .pre in
+    (lit≤ tt, rw (c .before .before .before .product .ensures) (factor-within (k .0) (k .1 .most)))
 
 returns : tie.Need-returns
 returns c =
     let k = c .before .before .before .before .before .before .args in
-    let t = row-tested (k .d) (k .number) (k .nearest) (k .share) _ _ (c .before .before .before .before .before .factor .ensures) (c .before .before .before .before .scaled .ensures) in
-    greatest-here _ (k .share) (sym t ∙ sym (c .before .passes .ensures) ∙ c .if1 .taken)
+    let t = row-tested (k .d) (k .row .number) (k .row .nearest) 10000 _ _ (c .before .before .before .before .before .product .ensures) (c .before .before .before .before .scaled .ensures) in
+    greatest-here _ 10000 (sym t ∙ sym (c .before .passes .ensures) ∙ c .if1 .taken)
 
 slice-aggregate-greatest-between : tie.Need-slice-aggregate-greatest-between
 slice-aggregate-greatest-between c = search needs
@@ -40,22 +46,23 @@ greatest-between-requires c κs =
     let h = leb-false _ _ (sym (c .before .before .before .passes .ensures) ∙ c .before .before .if1 .left) in
     let k = c .before .before .before .before .before .before .before .before .pre in
     record {
-      apart = some-share _ _ _ h;
-      top = k .top;
+      apart = lit≤ tt;
+      top = lit≤ tt;
       low = omega arith;
       high = h;
-      factor = rw (c .before .before .before .before .before .before .before .factor .ensures) (factor-within (k .thick) (k .most));
+      factor = rw (c .before .before .before .before .before .before .before .product .ensures) (factor-within (k .0) (k .1 .most));
     }
 
 returns-2 : tie.Need-returns-2
 returns-2 c =
-    row-floor _ _ _ _ _ _ _ (c .before .before .before .before .before .before .before .before .factor .ensures) (c .before .before .before .before .before .before .before .scaled .ensures) (c .greatest-between .ensures)
+    row-floor _ _ _ _ _ _ _ (c .before .before .before .before .before .before .before .before .product .ensures) (c .before .before .before .before .before .before .before .scaled .ensures) (c .greatest-between .ensures)
 
-pub lowered-spec : {M : Type 1} → statement M
-lowered-spec =
+pub row-share-spec : {M : Type 1} → statement M
+row-share-spec =
     tie.close
     (tie.spec
-    factor-requires
+    mul-product
+    product-requires
     scaled-requires
     slice-aggregate-passes
     slice-aggregate-passes-2
