@@ -152,6 +152,17 @@ for d, tenths in ((12, 390), (12, 389), (12, 391), (8, 4160), (8, 4159)):
 # The program writes E n and (E + 2) n, rounded to hundredths, and E, rounded to thousandths. The other rows of the table follow
 # from (13.2), "für 0° ≤ α ≤ 90° wird n_ef linear interpoliert", which 01 does not use.
 PRINTED = ((147, 735), (212, 706), (274, 686), (335, 670), (395, 658), (454, 648), (512, 640), (569, 632), (626, 626))
+# rows that differ in number and distance, in either order: n = 3 at 70 mm decides against n = 2 at 64 mm, not at 56 mm
+for near in (560, 640):
+    long, short = [(k * 700, 0) for k in range(3)], [(k * near, 900) for k in range(2)]
+    for dowels in (long + short, short + long):
+        case(10, (0, 1), wide(0), wide(1), dowels)
+# a stair: 63 rows of two in all, each step shorter than the one before it
+stair = [(0, 0)]
+for k in range(1, 64):
+    step = 1500 - 14 * k
+    stair.append((stair[-1][0] + step * (k % 2), stair[-1][1] + step * (1 - k % 2)))
+case(12, (120000, -170000), wide(0), wide(1), stair)
 # 64 dowels
 case(6, (1000, 0), wide(0), wide(0), [(k % 8 * 300, k // 8 * 180) for k in range(64)])
 case(6, (1000, 0), wide(0), wide(0), [(k % 8 * 300, k // 8 * 180) for k in range(63)] + [(7 * 300 - 1, 7 * 180)])

@@ -7,7 +7,7 @@ use native.Mathlib.Nat.{mul-le-mul, mul-le-mul-left, mul-le-mul-right, le-trans,
 use native.Mathlib.Decide.{decLe}
 use native.Mathlib.Omega.{arith}
 use borrow.Author.Tests.{le-leb, lt-leb, leb-true}
-use lib.Dec.{leb, lit≤}
+use lib.Dec.{leb}
 use lib.IntN.{ℤ}
 use mathlib.Core.List.{List}
 use native.Mathlib.Numerals.{add-one}
@@ -32,11 +32,6 @@ power20 h = pow-le-pow-left (pow-le-pow-left h 4) 5
 -- between lo and hi = lo + 1 there is no further number
 pub next-share : (q n lo hi : ℕ) → n < (hi ^ 4) ^ 5 * q → hi ≤ lo + 1 → n < ((lo + 1) ^ 4) ^ 5 * q
 next-share q n lo hi h e = lt-of-lt-of-le h (mul-le-mul-right q (power20 e))
-
--- what fails is above 0
-pub some-share : (q n e : ℕ) → n < (e ^ 4) ^ 5 * q → 0 < e
-some-share q n zero h = absurd (omega arith)
-some-share q n (suc e) h = omega arith
 
 -- n² (130 d)^5 has 73 bits
 pub factor-within : {d n : ℕ} → d ≤ 30 → n ≤ 64 → FactorWithin (n * n * (130 * d) ^ 5)
