@@ -63,7 +63,7 @@ fn row_use(d: Demand, along: u64, share: u64) -> u64
 }
 
 // The greatest of the three.
-pub fn use_ten_thousandths(d: Demand) -> u64
+pub(crate) fn use_ten_thousandths(d: Demand) -> u64
     requires { ⌜ DemandWithin d ⌝ }
     ensures { λ r. ⌜ r ≡ useOf d ⌝ }
 {

@@ -6,7 +6,7 @@ ghost use Rattle.joint.specs.Stage.{stageNumber};
 ghost use Rattle.joint.specs.Claim.{Judged};
 ghost use Rattle.joint.specs.Workings.{reportOf};
 
-pub mod demand;
+mod demand;
 mod drill;
 mod fields;
 mod figures;
