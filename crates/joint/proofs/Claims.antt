@@ -17,10 +17,10 @@ use Rattle.strength.proofs.Most.{at-most-meganewtons}
 use Rattle.spacing.specs.declared.verdict.Fault.{Fault}
 use Rattle.spacing.specs.Verdict.{fault}
 use Rattle.spacing.specs.Spacing.{along, across, frameOf, Given}
-use Rattle.spacing.specs.Share.{shareOf, memberShare}
-use Rattle.spacing.proofs.Bracket.{share-bracket, row-share-bracket}
-use Rattle.spacing.proofs.Floor.{share-from}
-use Rattle.spacing.proofs.Shares.{greatest-bound}
+use Rattle.group.specs.Share.{shareOf, memberShare}
+use Rattle.group.proofs.Bracket.{share-bracket, row-share-bracket}
+use Rattle.group.proofs.Floor.{share-from}
+use Rattle.group.proofs.Shares.{greatest-bound}
 use Rattle.spacing.proofs.Laws.{spacing-says}
 use Rattle.spacing.proofs.Passing.{joint-apart, Apart}
 use Rattle.joint.specs.declared.Member.{Member}

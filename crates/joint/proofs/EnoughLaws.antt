@@ -10,7 +10,7 @@ use Rattle.strength.specs.Fraction.{Fraction, _over_, whole, _⊕_, _⊗_, _⊘
 use Rattle.strength.specs.Shear.{AtMostR, AboveR, PlaneWithin}
 use Rattle.strength.proofs.Falling.{falls}
 use Rattle.wide.proofs.Powers.{square-le, square-is}
-use Rattle.spacing.proofs.Effective.{not-above-not-below}
+use Rattle.group.proofs.Effective.{not-above-not-below}
 use Rattle.joint.specs.declared.Member.{Member}
 use Rattle.joint.specs.declared.Values.{Values}
 use Rattle.joint.specs.Use.{

@@ -65,9 +65,9 @@ use Rattle.strength.specs.Fraction.{Fraction, _over_, whole, _⊕_, _⊗_, _⊘
 use Rattle.strength.specs.Shear.{AtMostR, AboveR, PlaneWithin, bearing}
 use Rattle.strength.specs.Tables.{densityOf, steelOf, kmodOf}
 use Rattle.strength.proofs.Falling.{falls}
-use Rattle.spacing.specs.Rows.{NotAbove, NotBelow, shareOver, countTo, leastTo, rowNumber, rowDistance}
-use Rattle.spacing.specs.Rows.NotBelow.{all, several}
-use Rattle.spacing.proofs.Effective.{not-above-falls}
+use Rattle.group.specs.Rows.{NotAbove, NotBelow, shareOver, countTo, leastTo, rowNumber, rowDistance}
+use Rattle.group.specs.Rows.NotBelow.{all, several}
+use Rattle.group.proofs.Effective.{not-above-falls}
 use Rattle.joint.specs.declared.Member.{Member}
 use Rattle.joint.specs.declared.Positions.{Positions}
 use Rattle.joint.specs.declared.Outline.{Outline}

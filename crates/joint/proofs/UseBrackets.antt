@@ -10,9 +10,9 @@ use Rattle.strength.specs.Shear.{AtMostR, AboveR, PlaneWithin}
 use Rattle.strength.proofs.Falling.{falls}
 use Rattle.strength.proofs.Ratios.{≈-le, ≈-sym}
 use Rattle.spacing.specs.Spacing.{along, across}
-use Rattle.spacing.specs.Rows.{shareOver}
-use Rattle.spacing.proofs.Effective.{not-above-not-below, above-not-below}
-use Rattle.spacing.proofs.Members.{row-some}
+use Rattle.group.specs.Rows.{shareOver}
+use Rattle.group.proofs.Effective.{not-above-not-below, above-not-below}
+use Rattle.group.proofs.Members.{row-some}
 use Rattle.joint.specs.declared.Member.{Member}
 use Rattle.joint.specs.declared.Values.{Values}
 use Rattle.joint.specs.declared.demand.Demand.{Demand}

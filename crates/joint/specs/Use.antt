@@ -14,8 +14,8 @@ use Rattle.strength.specs.declared.tables.Listed.the-variants.{Value, Unlisted}
 use Rattle.strength.specs.declared.plane.Member as strengthMember
 use Rattle.strength.specs.declared.plane.Plane.{Plane}
 use Rattle.spacing.specs.Spacing.{along, across}
-use Rattle.spacing.specs.Rows.{rowNumber, rowDistance, NotAbove, NotBelow, shareOver, SomeRowAbove, RowShareBracket}
-use Rattle.spacing.specs.Rows.{EveryRow as EveryRowOf}
+use Rattle.group.specs.Rows.{rowNumber, rowDistance, NotAbove, NotBelow, shareOver, SomeRowAbove, RowShareBracket}
+use Rattle.group.specs.Rows.{EveryRow as EveryRowOf}
 use Rattle.joint.specs.Refusal.{spaced}
 use Rattle.joint.specs.declared.Member.{Member}
 use Rattle.joint.specs.declared.Values.{Values}

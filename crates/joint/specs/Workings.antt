@@ -4,8 +4,8 @@ use mathlib.Core.Path.{_≡_}
 use Rattle.strength.specs.Working.{squareRootOf, capacityOf}
 use Rattle.strength.specs.Tables.{densityOf, k90Of}
 use Rattle.strength.specs.declared.plane.Member as strengthMember
-use Rattle.spacing.specs.Share.{shareOf}
-use Rattle.spacing.specs.declared.share.Shares.{Shares}
+use Rattle.group.specs.Share.{shareOf}
+use Rattle.group.specs.declared.share.Shares.{Shares}
 use Rattle.spacing.specs.Spacing.{Given}
 use Rattle.spacing.specs.declared.verdict.Fault.{Fault}
 use Rattle.joint.specs.declared.Member.{Member}

@@ -3,11 +3,4 @@ pub mod Limits
 pub mod Search
 pub mod Faults
 pub mod Laws
-pub mod Counting
-pub mod Sizes
-pub mod Shares
-pub mod Bracket
-pub mod Floor
-pub mod Effective
-pub mod Members
 pub mod Passing

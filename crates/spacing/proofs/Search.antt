@@ -1,11 +1,10 @@
 -- Laws of the search for the first index and the first pair.
 -- Assumes nothing.
 use mathlib.Core.Path.{_≡_, ap}
-use mathlib.Core.Bool.{Bool, true, false}
+use mathlib.Core.Bool.{Bool, true, false, cond}
 use Prim.Native.Nat.{ℕ, zero, suc, _+_, _-_, _≤_, _<_}
 use native.Mathlib.Omega.{arith}
 use Rattle.spacing.specs.Search.{firstFrom, partner}
-use Rattle.spacing.proofs.Counting.{pick-at-most}
 
 -- A loop from 0 to n starts with the whole search.
 pub first-start : (test : ℕ → Bool) (n : ℕ) → firstFrom test 0 n ≡ firstFrom test 0 (n - 0)
@@ -29,6 +28,11 @@ unfolding firstFrom
 first-end test k n h =
     let s : n - k ≡ 0 = omega arith in
     rw (s, firstFrom)
+
+-- a choice between two that are within a bound
+pub pick-at-most : (b : Bool) (x y n : ℕ) → x ≤ n → y ≤ n → cond b x y ≤ n
+pick-at-most true x y n p q = p
+pick-at-most false x y n p q = q
 
 -- The answer lies from k to the end.
 pub first-bound : (test : ℕ → Bool) (k left : ℕ) → firstFrom test k left ≤ k + left

@@ -4,9 +4,9 @@
 // Table 13-2, as 001 prints them.
 ghost use Prim.Native.Nat.{_+_, _*_, _≤_};
 ghost use lib.ListN.{length};
+use group::share;
 use libc::STDIN_FILENO;
 use libc::STDOUT_FILENO;
-use spacing::share;
 use spacing::signed;
 use spacing::verdict;
 use spacing::verdict::Fault;

@@ -3,7 +3,7 @@ use native.Mathlib.Omega.{arith}
 use borrow.Author.Needs.{needs}
 use mathlib.Core.Path.{_≡_, _∙_, ap, ap₂, subst⁻¹}
 use Prim.Native.Nat.{ℕ, _/_, min}
-use Rattle.spacing.specs.declared.share.Shares.{Shares}
+use Rattle.group.specs.declared.share.Shares.{Shares}
 use Rattle.joint.specs.Claim.{verdictOf}
 use Rattle.joint.specs.Workings.{answered, useIn, useOf, DemandWithin}
 use Rattle.joint.proofs.Claims.{known}

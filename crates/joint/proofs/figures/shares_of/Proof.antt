@@ -2,7 +2,7 @@
 use native.Mathlib.Omega.{arith}
 use borrow.Author.Needs.{needs}
 use mathlib.Core.Path.{_∙_}
-use Rattle.spacing.specs.Share.{sharesOf}
+use Rattle.group.specs.Share.{sharesOf}
 use Rattle.joint.proofs.figures.shares_of.Statement.{statement}
 use Rattle.joint.proofs.figures.shares_of.Tie as tie
 

@@ -1,0 +1,184 @@
+-- Laws of counting a row and of the least distance in it.
+-- Assumes nothing.
+use mathlib.Core.Path.{_≡_, refl, sym, ap, _∙_}
+use mathlib.Core.Bool.{Bool, true, false, cond, true≢false}
+use mathlib.Core.Logic.{_⊎_, inl, inr}
+use Prim.Native.Nat.{ℕ, zero, suc, _+_, _≤_, _<_, min}
+use native.Mathlib.Numerals.{add-one}
+use native.Mathlib.Nat.{lt-of-not-le}
+use native.Mathlib.Decide.{decLe, decLt, ℕ-discrete}
+use native.Mathlib.Omega.{arith}
+use Rattle.spacing.proofs.Search.{pick-at-most}
+use Rattle.group.specs.Rows.{countTo, leastTo}
+
+-- one more index
+pub count-on : (test : ℕ → Bool) (k : ℕ) → countTo test (k + 1) ≡ cond (test k) (countTo test k + 1) (countTo test k)
+unfolding countTo
+count-on test k = ap (countTo test) (add-one k)
+
+pub least-on :
+    (test : ℕ → Bool) (f : ℕ → ℕ) (k : ℕ) →
+    leastTo test f (k + 1) ≡ cond (test k) (min (leastTo test f k) (f k)) (leastTo test f k)
+unfolding leastTo
+least-on test f k = ap (leastTo test f) (add-one k)
+
+-- no index yet
+pub count-none : (test : ℕ → Bool) → 0 ≡ countTo test 0
+unfolding countTo
+count-none test = refl
+
+pub least-none : (test : ℕ → Bool) (f : ℕ → ℕ) → 200000 ≡ leastTo test f 0
+unfolding leastTo
+least-none test f = refl
+
+pub count-bound : (test : ℕ → Bool) (k : ℕ) → countTo test k ≤ k
+unfolding countTo
+count-bound test zero = omega arith
+count-bound test (suc k) =
+    let h = count-bound test k in pick-at-most (test k) _ _ _ (omega arith) (omega arith)
+
+pub least-bound : (test : ℕ → Bool) (f : ℕ → ℕ) (k : ℕ) → leastTo test f k ≤ 200000
+unfolding leastTo
+least-bound test f zero = omega arith
+least-bound test f (suc k) =
+    let h = least-bound test f k in pick-at-most (test k) _ _ _ (omega arith) h
+
+-- ---- the least of what passes
+below-by :
+    (test : ℕ → Bool) (f : ℕ → ℕ) (k j l : ℕ) (b : Bool) → test k ≡ b → test j ≡ true → j < suc k →
+    (j < k → l ≤ f j) → cond b (min l (f k)) l ≤ f j
+below-by test f k j l b t h q ih = go (decLt j k) b t
+  where
+    go : Dec (j < k) → (b : Bool) → test k ≡ b → cond b (min l (f k)) l ≤ f j
+    go (yes p) true t = omega (arith, ih p)
+    go (yes p) false t = ih p
+    go (no p) true t = let s : k ≡ j = omega (arith, lt-of-not-le p) in rw s (omega arith)
+    go (no p) false t =
+        let s : k ≡ j = omega (arith, lt-of-not-le p) in
+        absurd (true≢false (sym h ∙ ap test (sym s) ∙ t))
+
+-- it is at most each of them
+pub least-below : (test : ℕ → Bool) (f : ℕ → ℕ) (k j : ℕ) → j < k → test j ≡ true → leastTo test f k ≤ f j
+unfolding leastTo
+least-below test f zero j q h = absurd (omega arith)
+least-below test f (suc k) j q h =
+    below-by test f k j (leastTo test f k) (test k) refl h q (λ p. least-below test f k j p h)
+
+-- it is one of them, or the farthest distance
+pub record One (test : ℕ → Bool) (f : ℕ → ℕ) (k l : ℕ) : Type 0 where
+  pub one : ℕ
+  pub within : one < k
+  pub passes : test one ≡ true
+  pub least : l ≡ f one
+
+more : {test : ℕ → Bool} {f : ℕ → ℕ} {k l : ℕ} → One test f k l → One test f (suc k) l
+more o = record { one = o .one; within = omega (arith, o .within); passes = o .passes; least = o .least }
+
+one-by :
+    (test : ℕ → Bool) (f : ℕ → ℕ) (k l : ℕ) (b : Bool) → test k ≡ b → (l ≡ 200000) ⊎ One test f k l →
+    (cond b (min l (f k)) l ≡ 200000) ⊎ One test f (suc k) (cond b (min l (f k)) l)
+one-by test f k l false t (inl e) = inl e
+one-by test f k l false t (inr o) = inr (more o)
+one-by test f k l true t s = go (decLe l (f k)) s
+  where
+    go : Dec (l ≤ f k) → (l ≡ 200000) ⊎ One test f k l → (min l (f k) ≡ 200000) ⊎ One test f (suc k) (min l (f k))
+    go (yes p) (inl e) = inl (omega arith)
+    go (yes p) (inr o) = let s : min l (f k) ≡ l = omega arith in inr (rw s (more o))
+    go (no p) s = inr (record { one = k; within = omega arith; passes = t; least = omega (arith, lt-of-not-le p) })
+
+least-one : (test : ℕ → Bool) (f : ℕ → ℕ) (k : ℕ) → (leastTo test f k ≡ 200000) ⊎ One test f k (leastTo test f k)
+unfolding leastTo
+least-one test f zero = inl refl
+least-one test f (suc k) = one-by test f k (leastTo test f k) (test k) refl (least-one test f k)
+
+-- where something passes and nothing is farther than the farthest, it is one of them
+pub least-is-one :
+    (test : ℕ → Bool) (f : ℕ → ℕ) (k i : ℕ) → i < k → test i ≡ true → f i ≤ 200000 → One test f k (leastTo test f k)
+least-is-one test f k i h t b = go (least-one test f k)
+  where
+    go : (leastTo test f k ≡ 200000) ⊎ One test f k (leastTo test f k) → One test f k (leastTo test f k)
+    go (inl e) = record { one = i; within = h; passes = t; least = omega (arith, least-below test f k i h t) }
+    go (inr o) = o
+
+-- where nothing passes it is the farthest distance
+pub least-nothing : (test : ℕ → Bool) (f : ℕ → ℕ) (k : ℕ) → ((j : ℕ) → j < k → test j ≡ false) → leastTo test f k ≡ 200000
+unfolding leastTo
+least-nothing test f zero h = refl
+least-nothing test f (suc k) h =
+    rw (h k (omega arith)) (least-nothing test f k (λ j q. h j (omega arith)))
+
+-- ---- how many pass
+count-grows : (test : ℕ → Bool) (k : ℕ) → countTo test k ≤ countTo test (suc k)
+unfolding countTo
+count-grows test k = go (test k)
+  where
+    go : (b : Bool) → countTo test k ≤ cond b (countTo test k + 1) (countTo test k)
+    go true = omega arith
+    go false = omega arith
+
+count-here : (test : ℕ → Bool) (k : ℕ) → test k ≡ true → countTo test (suc k) ≡ countTo test k + 1
+unfolding countTo
+count-here test k h = rw h
+
+some-by :
+    (test : ℕ → Bool) (k i : ℕ) → Dec (i < k) → i < suc k → test i ≡ true → (i < k → 1 ≤ countTo test k) →
+    1 ≤ countTo test (suc k)
+some-by test k i (yes p) h t ih = omega (arith, ih p, count-grows test k)
+some-by test k i (no p) h t ih =
+    let s : i ≡ k = omega (arith, lt-of-not-le p) in
+    omega (arith, count-here test k (rw s at t))
+
+pub count-some : (test : ℕ → Bool) (k i : ℕ) → i < k → test i ≡ true → 1 ≤ countTo test k
+count-some test zero i h t = absurd (omega arith)
+count-some test (suc k) i h t = some-by test k i (decLt i k) h t (λ p. count-some test k i p t)
+
+two-by :
+    (test : ℕ → Bool) (k i j : ℕ) → Dec (j < k) → i < j → j < suc k → test i ≡ true → test j ≡ true →
+    (j < k → 2 ≤ countTo test k) → 2 ≤ countTo test (suc k)
+two-by test k i j (yes p) o h t u ih = omega (arith, ih p, count-grows test k)
+two-by test k i j (no p) o h t u ih =
+    let s : j ≡ k = omega (arith, lt-of-not-le p) in
+    omega (arith, count-here test k (rw s at u), count-some test k i (omega arith) t)
+
+pub count-two :
+    (test : ℕ → Bool) (k i j : ℕ) → i < j → j < k → test i ≡ true → test j ≡ true → 2 ≤ countTo test k
+count-two test zero i j o h t u = absurd (omega arith)
+count-two test (suc k) i j o h t u = two-by test k i j (decLt j k) o h t u (λ p. count-two test k i j o p t u)
+
+-- where one passes it can be found, and where two pass another than a given one
+pub record Another (test : ℕ → Bool) (k o : ℕ) : Type 0 where
+  pub one : ℕ
+  pub within : one < k
+  pub passes : test one ≡ true
+  pub differs : one ≡ o → ⊥
+
+wider : {test : ℕ → Bool} {k o : ℕ} → Another test k o → Another test (suc k) o
+wider t = record { one = t .one; within = omega (arith, t .within); passes = t .passes; differs = t .differs }
+
+-- an index below k differs from k
+find-by :
+    (test : ℕ → Bool) (k o : ℕ) (b : Bool) → test k ≡ b → k < o → 1 ≤ cond b (countTo test k + 1) (countTo test k) →
+    (1 ≤ countTo test k → Another test k o) → Another test (suc k) o
+find-by test k o true t l h ih =
+    record { one = k; within = omega arith; passes = t; differs = λ e. omega arith }
+find-by test k o false t l h ih = wider (ih h)
+
+find : (test : ℕ → Bool) (k o : ℕ) → k ≤ o → 1 ≤ countTo test k → Another test k o
+unfolding countTo
+find test zero o l h = absurd (omega arith)
+find test (suc k) o l h = find-by test k o (test k) refl l h (λ p. find test k o (omega arith) p)
+
+another-by :
+    (test : ℕ → Bool) (k o : ℕ) (b : Bool) → test k ≡ b → 2 ≤ cond b (countTo test k + 1) (countTo test k) →
+    (2 ≤ countTo test k → Another test k o) → Another test (suc k) o
+another-by test k o false t h ih = wider (ih h)
+another-by test k o true t h ih = go (ℕ-discrete k o)
+  where
+    go : Dec (k ≡ o) → Another test (suc k) o
+    go (yes e) = wider (find test k o (omega arith) (omega arith))
+    go (no e) = record { one = k; within = omega arith; passes = t; differs = e }
+
+pub another : (test : ℕ → Bool) (k o : ℕ) → 2 ≤ countTo test k → Another test k o
+unfolding countTo
+another test zero o h = absurd (omega arith)
+another test (suc k) o h = another-by test k o (test k) refl h (λ p. another test k o p)

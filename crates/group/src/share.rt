@@ -1,0 +1,176 @@
+// The share of a row and of a member, in ten-thousandths, rounded down (01, 'Rows, share and use').
+ghost use mathlib.Core.Path.{_≡_};
+ghost use Prim.Native.Nat.{_*_, _^_, _≤_};
+ghost use lib.Dec.{leb};
+ghost use Rattle.wide.specs.Natural.{value};
+ghost use Rattle.strength.specs.Roots.{FactorWithin};
+ghost use Rattle.group.specs.Rows.{RowsGiven};
+ghost use Rattle.group.specs.Share.{
+  units,
+  RowWithin,
+  BetweenShares,
+  GreatestShare,
+  greatestTo,
+  rowPasses,
+  Decides,
+  sharesTo,
+  shareOf,
+  sharesOf,
+};
+use crate::rows;
+use crate::rows::Row;
+use spacing::verdict::Member;
+use strength::roots;
+
+// Ten-thousandths of the whole.
+const WHOLE: u64 = 10000;
+
+// The shares of both members, in ten-thousandths.
+pub struct Shares {
+    pub side: u64,
+    pub middle: u64,
+}
+
+// 10,000 to the power of 20.
+const UNITS: [u32; 9] = [
+    0,
+    0,
+    3468754944,
+    1671571300,
+    4020508874,
+    3453057829,
+    1809837936,
+    2649374239,
+    863,
+];
+
+// number² length^5.
+fn product(number: u64, length: u64) -> [u32; 4]
+    requires { ⌜ (number ≤ 64) × (length ≤ 200000) ⌝ }
+    ensures { λ r. ⌜ value r ≡ number * number * length ^ 5 ⌝ }
+{
+    let square = length * length;
+    wide::product_u64(number * number * square, square * length)
+}
+
+// 10,000^20 a1^5.
+fn scaled(a1: u64) -> [u32; 12]
+    requires { ⌜ a1 ≤ 200000 ⌝ }
+    ensures { λ r. ⌜ value r ≡ units * a1 ^ 5 ⌝ }
+{
+    let power = product(1, a1);
+    let mut scaled = [0u32; 12];
+    wide::multiply_add(&mut scaled, &UNITS, &power);
+    scaled
+}
+
+// Whether e^20 q is at most n.
+fn passes(e: u64, q: &[u32], n: &[u32]) -> bool
+    requires { ⌜ (e ≤ 10000) × FactorWithin (value (now q)) ⌝ }
+    ensures { λ r. ⌜ r ≡ leb ((e ^ 4) ^ 5 * value (now (q .entry))) (value (now (n .entry))) ⌝ }
+{
+    let square = e * e;
+    roots::fifth_power_at_most(square * square, q, n)
+}
+
+// The greatest e with e^20 q at most n, known to be at least lo and below hi.
+fn greatest_between(q: &[u32], n: &[u32], lo: u64, hi: u64) -> u64
+    requires { ⌜ BetweenShares (value (now q)) (value (now n)) lo hi ⌝ }
+    ensures { λ r. ⌜ GreatestShare (value (now (q .entry))) (value (now (n .entry))) lo hi r ⌝ }
+{
+    let width = hi - lo;
+    if width <= 1 {
+        return lo;
+    }
+    let mid = lo + width / 2;
+    if passes(mid, q, n) {
+        greatest_between(q, n, mid, hi)
+    } else {
+        greatest_between(q, n, lo, mid)
+    }
+}
+
+// The greatest share that a row passes.
+fn row_share(d: u64, row: Row) -> u64
+    requires { ⌜ (d ≤ 30) × RowWithin row ⌝ }
+    ensures { λ r. ⌜ r ≡ greatestTo (rowPasses d (row .number) (row .nearest)) 10000 ⌝ }
+{
+    let q = product(row.number, 130 * d);
+    let n = scaled(row.nearest);
+    if passes(WHOLE, &q, &n) {
+        return WHOLE;
+    }
+    greatest_between(&q, &n, 0, WHOLE)
+}
+
+// Of two rows the one that passes fewer shares: the greater number² / nearest^5. A row no longer and no closer needs no powers.
+fn deciding(worst: Row, row: Row) -> Row
+    requires { ⌜ RowWithin worst × RowWithin row ⌝ }
+    ensures { λ r. ⌜ Decides worst row r ⌝ }
+{
+    if row.number <= worst.number {
+        if worst.nearest <= row.nearest {
+            return worst;
+        }
+    }
+    let there = product(row.number, worst.nearest);
+    let here = product(worst.number, row.nearest);
+    if wide::at_most(&there, &here) {
+        return worst;
+    }
+    row
+}
+
+// The share of the rows of a member, with the dowels' coordinates along and across its grain.
+fn share_in(d: u64, a: &[i32; 64], b: &[i32; 64], count: usize) -> u64
+    requires { ⌜ RowsGiven d count ⌝ }
+    ensures { λ r. ⌜ r ≡ sharesTo d (now (a .entry)) (now (b .entry)) count count ⌝ }
+{
+    let mut worst = Row {
+        number: 1,
+        nearest: rows::FARTHEST,
+    };
+    let mut i = 0;
+    while i < count {
+        worst = deciding(worst, rows::row_of(a, b, count, i));
+        i += 1;
+    }
+    row_share(d, worst)
+}
+
+// The share of a member.
+pub fn member_share(m: Member, d: u64, x: [i32; 64], y: [i32; 64], count: usize) -> u64
+    requires { ⌜ RowsGiven d count ⌝ }
+    ensures { λ r. ⌜ r ≡ shareOf m d x y count ⌝ }
+{
+    if m.grain == 0 {
+        return share_in(d, &x, &y, count);
+    }
+    share_in(d, &y, &x, count)
+}
+
+// The shares of both members: one root where the grains agree.
+pub fn both_shares(
+    side: Member,
+    middle: Member,
+    d: u64,
+    x: [i32; 64],
+    y: [i32; 64],
+    count: usize,
+) -> Shares
+    requires { ⌜ RowsGiven d count ⌝ }
+    ensures { λ r. ⌜ r ≡ sharesOf side middle d x y count ⌝ }
+{
+    let first = member_share(side, d, x, y, count);
+    if side.grain == middle.grain {
+        return Shares {
+            side: first,
+            middle: first,
+        };
+    }
+    let second = member_share(middle, d, x, y, count);
+    Shares {
+        side: first,
+        middle: second,
+    }
+}
