@@ -1,5 +1,5 @@
 -- How large the numbers of the use are, within its ranges.
-use Prim.Native.Nat.{ℕ, _+_, _*_, _/_, _%_, _≤_, _<_}
+use Prim.Native.Nat.{ℕ, _+_, _*_, _/_, _%_, _^_, _≤_, _<_}
 use mathlib.Core.Path.{_≡_}
 use native.Mathlib.Omega.{arith}
 use native.Mathlib.Nat.{mul-pos, mul-le-mul, lt-of-le-of-lt}
@@ -10,6 +10,10 @@ use Rattle.joint.specs.Workings.{RowWithin, CheckWithin}
 -- a root of 2^20 total
 pub root-small : {total r : ℕ} → total ≤ 2000000000000 → r * r ≤ 1048576 * total → r ≤ 1448154688
 root-small {total} {r} h e = omega (arith, square-lt r 1448154689 (omega arith))
+
+-- a root of a number that fits, whatever the number is made of
+pub root-fits : (n r : ℕ) → r * r ≤ n → n < 2 ^ 64 → r + 1 < 2 ^ 64
+root-fits n r e h = omega (arith, square-lt r (2 ^ 32) (omega arith))
 
 pub planes-small : {n p : ℕ} → n ≤ 64 → p < 256 → n * p ≤ 16320
 planes-small {n} {p} h g = mul-le-mul {m₂ = 255} h (omega arith)

@@ -27,7 +27,7 @@ use Rattle.spacing.specs.Spacing.{
   Components,
 }
 use Rattle.spacing.specs.Limits.{PairLimit, EndLimit, closeBy, outside}
-use Rattle.spacing.specs.Verdict.{fault, oneDowel, pairFault, endFault, orElse, verdictIn, memberVerdict}
+use Rattle.spacing.specs.Verdict.{fault, oneDowel, pairFault, endFault, edgeFault, orElse, verdictIn, memberVerdict}
 use Rattle.spacing.proofs.Integers.{natAbs-neg}
 
 -- ---- a whole limit tests what the rule tests
@@ -76,6 +76,14 @@ unfolding endFault
 end-found member v d under over a n i r low high e p q l h o =
     o ∙ ap (λ k. oneDowel 11 member k n)
     (e ∙ ap₂ (λ s t. firstFrom (outside s t under over a) 0 n) p q ∙ ap (λ t. firstFrom t 0 n) (end-same v d under over a l h))
+
+pub edge-found :
+    (member : ℕ) (v : Frame) (d : ℕ) (b : List ℤ) (n i : ℕ) (r : Fault) (left right : ℤ) →
+    i ≡ firstFrom (outside left right (30 * d) (30 * d) b) 0 n → left ≡ v .left → right ≡ v .right →
+    r ≡ oneDowel 12 member i n → r ≡ edgeFault member v d b n
+unfolding edgeFault
+edge-found member v d b n i r left right e p q o =
+    o ∙ ap (λ k. oneDowel 12 member k n) (e ∙ ap₂ (λ s t. firstFrom (outside s t (30 * d) (30 * d) b) 0 n) p q)
 
 -- ---- one fault after another
 pub the-first : (r f g : Fault) → r ≡ f → (r .number ≡ 0 → ⊥) → r ≡ orElse f g

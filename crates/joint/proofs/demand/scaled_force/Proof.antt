@@ -7,7 +7,7 @@ use lib.Dec.{lit<}
 use native.Mathlib.Nat.{lt-of-le-of-lt}
 use Rattle.strength.proofs.Greatest.{square-root-is}
 use Rattle.joint.specs.Workings.{forceOf}
-use Rattle.joint.proofs.UseSizes.{root-small}
+use Rattle.joint.proofs.UseSizes.{root-small, root-fits}
 use Rattle.joint.proofs.demand.scaled_force.Statement.{statement}
 use Rattle.joint.proofs.demand.scaled_force.Tie as tie
 
@@ -18,7 +18,7 @@ whole-square-root-requires : tie.Need-whole-square-root-requires
 whole-square-root-requires c κs = search needs
 
 add-result : tie.Need-add-result
-add-result c = omega (arith, root-small (c .before .pre) (c .whole-square-root .ensures .low))
+add-result c = omega (arith, root-fits _ _ (c .whole-square-root .ensures .low) (omega (arith, c .before .pre)))
 
 returns : tie.Need-returns
 unfolding forceOf

@@ -1,13 +1,15 @@
 -- `figures::answer` meets its contract.
 use native.Mathlib.Omega.{arith}
 use borrow.Author.Needs.{needs}
-use mathlib.Core.Path.{_≡_, _∙_, ap, ap₂, subst⁻¹}
+use mathlib.Core.Path.{_≡_, _∙_, ap, ap₂}
 use Prim.Native.Nat.{ℕ, _/_, min}
 use Rattle.group.specs.declared.share.Shares.{Shares}
+use Rattle.strength.specs.Working.{capacityOf}
+use Rattle.joint.specs.Use.{planeOf}
 use Rattle.joint.specs.Claim.{verdictOf}
-use Rattle.joint.specs.Workings.{answered, useIn, useOf, DemandWithin}
+use Rattle.joint.specs.Workings.{answered, useIn, useOf, shareIn}
 use Rattle.joint.proofs.Claims.{known}
-use Rattle.joint.proofs.Planes.{demand-path}
+use Rattle.joint.proofs.Planes.{demand-path, demand-within}
 use Rattle.joint.proofs.figures.answer.Statement.{statement}
 use Rattle.joint.proofs.figures.answer.Tie as tie
 
@@ -22,10 +24,15 @@ demand-of-requires c κs = search needs
 
 use-ten-thousandths-requires : tie.Need-use-ten-thousandths-requires
 use-ten-thousandths-requires c κs =
-    subst⁻¹ DemandWithin
-    (demand-path (c .before .before .before .args .v) (c .before .before .capacity-of .result) (c .before .shares-of .result .side) (c .before .shares-of .result .middle) (c .demand-of .result) (c .demand-of .ensures) (c .before .before .capacity-of .ensures)
-    (ap (λ (s : Shares). s .side) (c .before .shares-of .ensures)) (ap (λ (s : Shares). s .middle) (c .before .shares-of .ensures)))
-    (known (c .before .before .before .args .v) (c .before .before .before .pre) .demand)
+    let v = c .before .before .before .args .v in
+    let w = known v (c .before .before .before .pre) .demand in
+    let first = ap (λ (s : Shares). s .side) (c .before .shares-of .ensures) in
+    let second = ap (λ (s : Shares). s .middle) (c .before .shares-of .ensures) in
+    demand-within v (capacityOf (planeOf v)) (shareIn v (v .members .member1)) (shareIn v (v .members .member2)) _ _ _ w (c .demand-of .ensures) (c .before .before .capacity-of .ensures)
+    (omega (arith, w .row1 .share-low, w .row2 .share-low, first, second))
+    (omega (arith, w .row1 .share-high, w .row2 .share-high, first, second))
+    (omega (arith, w .row1 .share-low, w .row2 .share-low, first, second))
+    (omega (arith, w .row1 .share-high, w .row2 .share-high, first, second))
 
 verdict-of-requires : tie.Need-verdict-of-requires
 verdict-of-requires c κs = search needs
