@@ -1,3 +1,3 @@
 // Rows of dowels in a member and the share of a row that counts, exact (01, 'Rows, share and use').
-pub mod rows;
+mod rows;
 pub mod share;

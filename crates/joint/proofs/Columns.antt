@@ -12,7 +12,8 @@ use lib.Dec.{leb}
 use lib.IntN.{ℤ, pos}
 use lib.ListN.{length, getD, set, replicate, length-set, length-replicate}
 use lib.Seq.{set-out, getD-set-same, getD-set-other}
-use Rattle.joint.specs.Layout.{u8At, partOfKind, column, i32At, positionsIn, valuesOf}
+use Rattle.numbers.specs.Numbers.{u8At, i32At}
+use Rattle.joint.specs.Layout.{partOfKind, column, positionsIn, valuesOf}
 use Rattle.joint.specs.Refusal.{coordinate, coordinates}
 
 pub coordinates-none : (l : List ℤ) → coordinates l 0 ≡ true

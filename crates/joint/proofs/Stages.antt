@@ -9,7 +9,8 @@ use lib.Dec.{eqb, ltb, leb}
 use lib.ListN.{length, drop, length-drop}
 use lib.Seq.{length-take-le}
 use borrow.Author.Tests.{le-ltb, lt-ltb, ltb-false, leb-true, eq-eqb, eqb-true, eqb-false, not-true, not-false}
-use Rattle.joint.specs.Layout.{u8At, version, pairCount, pairOffset, pairLength, pairSum, partOfPair, kindOfPair, pairOfKind, partOfKind, valuesOf}
+use Rattle.numbers.specs.Numbers.{u8At}
+use Rattle.joint.specs.Layout.{version, pairCount, pairOffset, pairLength, pairSum, partOfPair, kindOfPair, pairOfKind, partOfKind, valuesOf}
 use Rattle.joint.specs.Refusal.{refusal1, refusal2, refusal3, refusal4, refusal5, refusal6, pairFrom, positionsLength, oneIf, once, fieldsWithin, emptyOutlines, noForce, scriptTests, designerTests, firstFrom, refusalNumber}
 use Rattle.joint.specs.Stage.{stage, stageNumber, headerTests, pairStage, valueTests, weightOf, Chained, Sized}
 use Rattle.joint.specs.declared.Values.{Values}

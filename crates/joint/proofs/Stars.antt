@@ -14,20 +14,8 @@ use Rattle.joint.specs.declared.report.Report.{Report}
 use Rattle.joint.specs.declared.report.Verdict.the-variants.{Fits, Overloaded, Refused}
 use borrow.Author.Tests.{le-leb, lt-leb}
 use Rattle.joint.specs.declared.Values.{Values}
-use Rattle.joint.specs.Layout.{
-  twosComplement,
-  i32At,
-  partOfPair,
-  pairOfKind,
-  outlineAt,
-  memberAt,
-  membersIn,
-  dowelIn,
-  column,
-  positionsIn,
-  loadsIn,
-  valuesOf,
-}
+use Rattle.numbers.specs.Numbers.{twosComplement, i32At}
+use Rattle.joint.specs.Layout.{partOfPair, pairOfKind, outlineAt, memberAt, membersIn, dowelIn, column, positionsIn, loadsIn, valuesOf}
 use Rattle.joint.specs.Refusal.{
   refusal1,
   refusal2,
@@ -63,7 +51,7 @@ use mathlib.Core.Logic.{⊎-elim}
 use lib.Dec.{lit<, lit≤}
 use Rattle.strength.specs.Fraction.{Fraction, _over_, whole, _⊕_, _⊗_, _⊘_, _↑_, _≼_, Proper}
 use Rattle.strength.specs.Shear.{AtMostR, AboveR, PlaneWithin, bearing}
-use Rattle.strength.specs.Tables.{densityOf, steelOf, kmodOf}
+use Rattle.codes.specs.Tables.{densityOf, steelOf, kmodOf}
 use Rattle.strength.proofs.Falling.{falls}
 use Rattle.group.specs.Rows.{NotAbove, NotBelow, shareOver, countTo, leastTo, rowNumber, rowDistance}
 use Rattle.group.specs.Rows.NotBelow.{all, several}

@@ -6,6 +6,7 @@ use mathlib.Core.Bool.{cond}
 use lib.ListN.{length, getD, take, drop, set, replicate}
 use lib.IntN.{ℤ, pos, _-ℤ_}
 use lib.Dec.{ltb, eqb}
+use Rattle.numbers.specs.Numbers.{u8At, u16At, i32At}
 use Rattle.joint.specs.declared.Outline.{Outline}
 use Rattle.joint.specs.declared.Member.{Member}
 use Rattle.joint.specs.declared.Members.{Members}
@@ -13,23 +14,6 @@ use Rattle.joint.specs.declared.Dowel.{Dowel}
 use Rattle.joint.specs.declared.Positions.{Positions}
 use Rattle.joint.specs.declared.Loads.{Loads}
 use Rattle.joint.specs.declared.Values.{Values}
-
--- 'Numbers of more than one byte are little-endian; i32 is two's complement.'
-abbrev pub u8At : List ℕ → ℕ → ℕ
-u8At s i = getD s i 0
-
-abbrev pub u16At : List ℕ → ℕ → ℕ
-u16At s i = u8At s i + u8At s (i + 1) * 256
-
-abbrev pub u32At : List ℕ → ℕ → ℕ
-u32At s i = u16At s i + u16At s (i + 2) * 65536
-
--- below 2^31 the number itself, from there on 2^32 less
-unfoldable pub twosComplement : ℕ → ℤ
-twosComplement n = cond (ltb n 2147483648) (pos n) (pos n -ℤ pos 4294967296)
-
-unfoldable pub i32At : List ℕ → ℕ → ℤ
-i32At s i = twosComplement (u32At s i)
 
 -- 'Bytes 0-1: version, 1. Bytes 2-3: number of pairs, 4.'
 abbrev pub version : List ℕ → ℕ

@@ -7,7 +7,8 @@ use lib.ListN.{length, getD, replicate}
 use lib.IntN.{ℤ, pos, negℤ, natAbs}
 use lib.Signed.{leZ}
 use lib.Dec.{ltb, leb, eqb}
-use Rattle.joint.specs.Layout.{u8At, version, pairCount, pairOffset, pairLength, pairSum, kindOfPair, partOfKind, valuesOf}
+use Rattle.numbers.specs.Numbers.{u8At}
+use Rattle.joint.specs.Layout.{version, pairCount, pairOffset, pairLength, pairSum, kindOfPair, partOfKind, valuesOf}
 use Rattle.joint.specs.declared.Outline.{Outline}
 use Rattle.joint.specs.declared.Member.{Member}
 use Rattle.joint.specs.declared.Members.{Members}

@@ -6,7 +6,8 @@ use mathlib.Core.List.{List, [], _∷_}
 use mathlib.Core.Bool.{Bool, cond, not}
 use lib.Dec.{eqb}
 use lib.ListN.{length}
-use Rattle.joint.specs.Layout.{u8At, pairLength, pairSum, partOfKind}
+use Rattle.numbers.specs.Numbers.{u8At}
+use Rattle.joint.specs.Layout.{pairLength, pairSum, partOfKind}
 use Rattle.joint.specs.Refusal.{refusal1, refusal2, refusal3, oneIf, pairFrom, fieldsWithin, emptyOutlines, noForce}
 use Rattle.joint.specs.declared.Pair.{Pair}
 use Rattle.joint.specs.declared.Pair.the-variants.{End, Broken}

@@ -1,12 +1,13 @@
 // The record's header, pairs, kinds and lengths: refusals 1 to 6.
 use crate::Pair;
 use crate::Stage;
-use crate::fields::u16_at;
+use numbers::u16_at;
 ghost use mathlib.Core.Path.{_≡_};
 ghost use mathlib.Core.List.{[], _∷_};
 ghost use Prim.Native.Nat.{_+_, _≤_, _<_};
 ghost use lib.ListN.{length};
-ghost use Rattle.joint.specs.Layout.{u8At, partOfPair, kindOfPair, pairOfKind, partOfKind};
+ghost use Rattle.numbers.specs.Numbers.{u8At};
+ghost use Rattle.joint.specs.Layout.{partOfPair, kindOfPair, pairOfKind, partOfKind};
 ghost use Rattle.joint.specs.Refusal.{refusal4, refusal5, refusal6, positionsLength, firstFrom, scriptTests};
 ghost use Rattle.joint.specs.Stage.{stage, headerTests, pairStage, weightOf, Chained};
 

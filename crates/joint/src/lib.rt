@@ -8,7 +8,6 @@ ghost use Rattle.joint.specs.Workings.{reportOf};
 
 mod demand;
 mod drill;
-mod fields;
 mod figures;
 mod layout;
 mod limits;

@@ -7,13 +7,14 @@ use crate::Members;
 use crate::Outline;
 use crate::Positions;
 use crate::Values;
-use crate::fields::i32_at;
-use crate::fields::u16_at;
 use crate::layout::part_of_kind;
+use numbers::i32_at;
+use numbers::u16_at;
 ghost use mathlib.Core.Path.{_≡_};
 ghost use Prim.Native.Nat.{_+_, _*_, _≤_, min};
 ghost use lib.ListN.{length};
-ghost use Rattle.joint.specs.Layout.{u8At, outlineAt, memberAt, membersIn, dowelIn, column, positionsIn, loadsIn, valuesOf};
+ghost use Rattle.numbers.specs.Numbers.{u8At};
+ghost use Rattle.joint.specs.Layout.{outlineAt, memberAt, membersIn, dowelIn, column, positionsIn, loadsIn, valuesOf};
 ghost use Rattle.joint.specs.Stage.{Chained, Sized};
 
 fn outline_at(part: &[u8], i: usize) -> Outline

@@ -1,5 +1,5 @@
 // Spacing of dowels (000, Table 8), exact (01, 'Spacing').
 pub mod limit;
-pub mod scan;
+mod scan;
 pub mod signed;
 pub mod verdict;

@@ -29,7 +29,7 @@ pub fn square(f: i32) -> u64
 }
 
 // The least distance of two dowels along the grain: (3 + 2 cos α) d.
-pub fn between_dowels(d: u64, force: i32, sideways: i32) -> u64
+pub(crate) fn between_dowels(d: u64, force: i32, sideways: i32) -> u64
     requires { ⌜ Components d force sideways ⌝ }
     ensures { λ r. ⌜ PairLimit d (square force) (square force + square sideways) r ⌝ }
 {
@@ -38,7 +38,7 @@ pub fn between_dowels(d: u64, force: i32, sideways: i32) -> u64
 }
 
 // The least distance to an end: 7d and 80 mm where it is loaded, else 7d sin α and 3d.
-pub fn from_end(loaded: bool, d: u64, force: i32, sideways: i32) -> u64
+pub(crate) fn from_end(loaded: bool, d: u64, force: i32, sideways: i32) -> u64
     requires { ⌜ Components d force sideways ⌝ }
     ensures { λ r. ⌜ EndLimit loaded d (square sideways) (square force + square sideways) r ⌝ }
 {

@@ -24,7 +24,7 @@ pub fn apart(a: i32, b: i32) -> u64
 }
 
 // Whether `to` lies at least `least` tenths above `from`; below it the distance is negative.
-pub fn reaches(from: i32, to: i32, least: u64) -> bool
+pub(crate) fn reaches(from: i32, to: i32, least: u64) -> bool
     ensures { λ r. ⌜ r ≡ leZ (pos least) (to -ℤ from) ⌝ }
 {
     let between = difference(to, from);
@@ -42,14 +42,14 @@ pub fn size(z: i32) -> u64
 }
 
 // Whether a component is above 0.
-pub fn positive(z: i32) -> bool
+pub(crate) fn positive(z: i32) -> bool
     ensures { λ r. ⌜ r ≡ leZ (pos 1) z ⌝ }
 {
     reaches(0, z, 1)
 }
 
 // Whether a component is below 0.
-pub fn negative(z: i32) -> bool
+pub(crate) fn negative(z: i32) -> bool
     ensures { λ r. ⌜ r ≡ leZ (pos 1) (negℤ z) ⌝ }
 {
     reaches(z, 0, 1)

@@ -4,7 +4,7 @@ use Prim.Native.Nat.{ℕ, _+_, _*_, _-_, _/_, _^_, _≤_, _<_, min}
 use native.Mathlib.Nat.{mul-pos, mul-le-mul, mul-le-mul-left, mul-le-mul-right, le-trans, lt-of-le-of-lt, lt-of-lt-of-le, lt-of-not-le, lt-irrefl, le-min, min-le-left, min-le-right, mul-div-le, lt-mul-div-succ, lt-div-mul-add, div-mul-le-self, div-le-of-le-mul, le-of-lt, one-le-pow, mul-one, le-add-left, le-add-right}
 use native.Mathlib.Omega.{arith}
 use mathlib.Core.Path.{refl, sym}
-use mathlib.Core.Bool.{Bool, true, false}
+use mathlib.Core.Bool.{Bool, true, false, cond}
 use lib.Dec.{eqb, lit<}
 use Rattle.strength.specs.declared.plane.Member.{Member}
 use Rattle.strength.specs.declared.plane.Plane.{Plane}
@@ -28,7 +28,6 @@ use Rattle.strength.specs.Shear.{
   cSquared,
   firstToTheTenth,
 }
-use Rattle.strength.specs.Tables.{choose}
 use Rattle.strength.specs.Working.{bearingNum, bearingDen, crossed, crossSum, dowelFactor, yieldToTheFifth, yieldMomentOf, firstOf, forceOf, shareRootOf, wedgeOf, halfOf, secondOf, thirdOf, capacityOf}
 use Rattle.wide.proofs.Powers.{square-le}
 use Rattle.strength.proofs.Ratios.{Positive, ≼-trans, ≈-le, ⊗-≈, ⊘-≈, ↑-≈}
@@ -365,7 +364,7 @@ module _ (p : Plane) (w : PlaneWithin p) where
       (omega (arith, den-positive (p .other) (w .other))))
       (le-trans (mul-le-mul-right (2 * bearingDen (p .other)) (omega arith)) h))
 
-  at-third-by : (b : Bool) → third-test b (choose b one two over 1000)
+  at-third-by : (b : Bool) → third-test b (cond b one two over 1000)
   at-third-by true =
       term-low (p .other) (w .other) (other-force-positive p w) (cSquared p) (c-positive p w)
       (crossed (p .side) (p .other))
@@ -373,7 +372,7 @@ module _ (p : Plane) (w : PlaneWithin p) where
       (le-add-right (crossed (p .side) (p .other)) (crossed (p .other) (p .side)))
   at-third-by false = at-half
 
-  past-third-by : (b : Bool) → third-test b ((choose b one two + 2) over 1000) → ⊥
+  past-third-by : (b : Bool) → third-test b ((cond b one two + 2) over 1000) → ⊥
   past-third-by true =
       term-high (p .other) (w .other) (other-force-positive p w) (cSquared p) (c-positive p w)
       (crossed (p .side) (p .other))

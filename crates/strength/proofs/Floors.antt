@@ -3,11 +3,10 @@
 use Prim.Native.Nat.{ℕ, _+_, _*_, _/_, _≤_, _<_}
 use native.Mathlib.Nat.{mul-pos, mul-le-mul, mul-le-mul-left, mul-le-mul-right, lt-of-le-of-lt, lt-of-mul-lt-mul-right, le-trans, le-of-suc-le-suc, le-div-iff-mul-le, le-min, le-add-left, le-add-right}
 use native.Mathlib.Omega.{arith}
-use mathlib.Core.Bool.{Bool, true, false}
+use mathlib.Core.Bool.{Bool, true, false, cond}
 use lib.Dec.{eqb}
 use Rattle.strength.specs.declared.plane.Member.{Member}
 use Rattle.strength.specs.declared.plane.Plane.{Plane}
-use Rattle.strength.specs.Tables.{choose}
 use Rattle.strength.specs.Shear.{MemberWithin, PlaneWithin}
 use Rattle.strength.specs.Working.{bearingNum, bearingDen, crossed, crossSum, dowelFactor, forceOf, yieldMomentOf, firstOf, shareRootOf, wedgeOf, halfOf, secondOf, thirdOf, capacityOf}
 use Rattle.wide.proofs.Powers.{square-lt}
@@ -104,7 +103,7 @@ module _ (p : Plane) (w : PlaneWithin p) where
       whole : (u v : ℕ) → u ≤ 7 * v → u + v ≤ 8 * v
       whole u v h = omega arith
 
-  third-by : (b : Bool) → 1000 ≤ choose b
+  third-by : (b : Bool) → 1000 ≤ cond b
       (wedgeOf (forceOf (p .diameter) (p .other)) (bearingDen (p .other))
       (shareRootOf (crossed (p .side) (p .other)) (crossSum p)))
       (halfOf (forceOf (p .diameter) (p .other)) (bearingDen (p .other)))

@@ -4,10 +4,9 @@ use Prim.Native.Nat.{ℕ, zero, suc, _+_, _*_, _^_, _<_}
 use native.Mathlib.Nat.{lt-of-mul-lt-mul-right}
 use native.Mathlib.Omega.{arith}
 use mathlib.Core.Path.{_≡_, refl, _∙_, sym, ap}
-use mathlib.Core.Bool.{Bool, true, false}
+use mathlib.Core.Bool.{Bool, true, false, cond}
 use lib.Dec.{leb}
 use borrow.Author.Tests.{leb-true, leb-false, le-leb, lt-leb}
-use Rattle.strength.specs.Tables.{choose}
 use Rattle.strength.specs.Roots.{SquareRoot, FifthRoot}
 use Rattle.strength.specs.Working.{greatest, squareRootOf, fifthRootOf}
 use Rattle.wide.proofs.Powers.{one-root, square-lt, pow-lt-back}
@@ -23,7 +22,7 @@ step :
     → test (r + 2 ^ k) ≡ b
     → (test (r + 2 ^ k) ≡ true → Last test (greatest k test (r + 2 ^ k)))
     → (test (r + 2 ^ k) ≡ false → Last test (greatest k test r))
-    → Last test (greatest k test (choose b (r + 2 ^ k) r))
+    → Last test (greatest k test (cond b (r + 2 ^ k) r))
 step k test r true e upper lower = upper e
 step k test r false e upper lower = lower e
 

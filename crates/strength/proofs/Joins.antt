@@ -9,7 +9,7 @@ use Rattle.wide.proofs.Bits.{product-bits}
 use Rattle.strength.specs.declared.plane.Member.{Member}
 use Rattle.strength.specs.declared.plane.Plane.{Plane}
 use Rattle.strength.specs.declared.terms.Joined.{Joined}
-use Rattle.strength.specs.Tables.{choose}
+use mathlib.Core.Bool.{cond}
 use Rattle.strength.specs.Shear.{MemberWithin, PlaneWithin}
 use Rattle.strength.specs.Leaves.{JoinedOf, Part, FirstWithin, ForceWithin}
 use Rattle.strength.specs.Working.{bearingNum, bearingDen, crossed, dowelFactor, yieldMomentOf, firstOf, shareRootOf, wedgeOf, halfOf, secondOf, thirdOf, capacityOf}
@@ -80,7 +80,7 @@ module _ {p : Plane} (w : PlaneWithin p) {j : Joined} (h : JoinedOf (p .side) (p
       → a ≡ firstOf (dowelFactor (p .diameter)) m (value (j .nums)) (value (j .whole))
       → r ≡ shareRootOf (value (j .cross2)) (value (j .whole))
       → b ≡ wedgeOf (dowelFactor (p .diameter) * p .side .thickness * value (j .num1)) (value (j .den1)) r
-      → c ≡ choose (eqb (p .planes) 1)
+      → c ≡ cond (eqb (p .planes) 1)
       (wedgeOf (dowelFactor (p .diameter) * p .other .thickness * value (j .num2)) (value (j .den2))
       (shareRootOf (value (j .cross1)) (value (j .whole))))
       (halfOf (dowelFactor (p .diameter) * p .other .thickness * value (j .num2)) (value (j .den2)))

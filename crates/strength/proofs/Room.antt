@@ -3,25 +3,24 @@
 use Prim.Native.Nat.{ℕ, _+_, _*_, _/_, _^_, _<_}
 use native.Mathlib.Nat.{zero-add, div-eq-of-lt-le}
 use mathlib.Core.Path.{_≡_, refl, _∙_, sym, ap}
-use mathlib.Core.Bool.{Bool, true, false}
+use mathlib.Core.Bool.{Bool, true, false, cond}
 use mathlib.Core.List.{List, [], _∷_}
 use lib.Dec.{T, eqb, leb, leb→le}
 use borrow.Author.Tests.{eqb-true}
 use native.Mathlib.Omega.{arith}
-use Rattle.strength.specs.Tables.{choose}
 use lib.ListN.{length}
 use Rattle.wide.specs.Natural.{value, weight, Divided}
 use Rattle.wide.proofs.Bits.{fits-limbs}
 
 abbrev pub allZero : List ℕ → Bool
 allZero [] = true
-allZero (x ∷ xs) = choose (eqb x 0) (allZero xs) false
+allZero (x ∷ xs) = cond (eqb x 0) (allZero xs) false
 
 step :
     (x v : ℕ) (rest b : Bool)
     → eqb x 0 ≡ b
     → (T rest → v ≡ 0)
-    → T (choose b rest false)
+    → T (cond b rest false)
     → x + 4294967296 * v ≡ 0
 step x v rest true e h t = let z : x ≡ 0 = eqb-true x 0 e in omega (arith, h t)
 step x v rest false e h t = absurd t

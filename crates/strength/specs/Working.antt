@@ -2,16 +2,15 @@
 -- the shape of the algorithm, so that equal values give equal figures.
 -- Assumes nothing.
 use Prim.Native.Nat.{ℕ, zero, suc, _+_, _*_, _-_, _/_, _^_, min}
-use mathlib.Core.Bool.{Bool}
+use mathlib.Core.Bool.{Bool, cond}
 use lib.Dec.{leb, eqb}
 use Rattle.strength.specs.declared.plane.Member.{Member}
 use Rattle.strength.specs.declared.plane.Plane.{Plane}
-use Rattle.strength.specs.Tables.{choose}
 
 -- r with its k lowest bits set as far as the test still passes
 unfoldable pub greatest : ℕ → (ℕ → Bool) → ℕ → ℕ
 greatest zero test r = r
-greatest (suc k) test r = greatest k test (choose (test (r + 2 ^ k)) (r + 2 ^ k) r)
+greatest (suc k) test r = greatest k test (cond (test (r + 2 ^ k)) (r + 2 ^ k) r)
 
 -- the whole square root of a number below 2^64
 unfoldable pub squareRootOf : ℕ → ℕ
@@ -73,7 +72,7 @@ secondOf p =
 
 unfoldable pub thirdOf : Plane → ℕ
 thirdOf p =
-    choose (eqb (p .planes) 1)
+    cond (eqb (p .planes) 1)
     (wedgeOf (forceOf (p .diameter) (p .other)) (bearingDen (p .other))
     (shareRootOf (crossed (p .side) (p .other)) (crossSum p)))
     (halfOf (forceOf (p .diameter) (p .other)) (bearingDen (p .other)))

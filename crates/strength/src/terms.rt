@@ -5,7 +5,7 @@ ghost use mathlib.Core.Path.{_≡_};
 ghost use Prim.Native.Nat.{_+_, _*_, _≤_, min};
 ghost use lib.Dec.{eqb};
 ghost use Rattle.wide.specs.Natural.{value};
-ghost use Rattle.strength.specs.Tables.{choose};
+ghost use mathlib.Core.Bool.{cond};
 ghost use Rattle.strength.specs.Shear.{MemberWithin};
 ghost use Rattle.strength.specs.Leaves.{BearingWithin, BearingOf, JoinedOf, Bits, Part, FirstWithin, ForceWithin};
 ghost use Rattle.strength.specs.Working.{firstOf, shareRootOf, wedgeOf, halfOf};
@@ -153,7 +153,7 @@ pub fn third_term(
 ) -> u64
     requires { ⌜ ForceWithin force (value (now num)) (value (now den)) ⌝ }
     requires { ⌜ Part (value (now part)) (value (now whole)) ⌝ }
-    ensures { λ r. ⌜ r ≡ choose (eqb planes 1)
+    ensures { λ r. ⌜ r ≡ cond (eqb planes 1)
         (wedgeOf (force * value (now (num .entry))) (value (now (den .entry)))
         (shareRootOf (value (now (part .entry))) (value (now (whole .entry)))))
         (halfOf (force * value (now (num .entry))) (value (now (den .entry)))) ⌝ }

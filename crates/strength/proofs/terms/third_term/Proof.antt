@@ -6,16 +6,16 @@ use borrow.Author.Tests.{eq-eqb, ne-eqb}
 use mathlib.Core.Path.{_≡_, _∙_, ap}
 use Prim.Native.Nat.{ℕ}
 use lib.Dec.{eqb}
-use Rattle.strength.specs.Tables.{choose}
+use mathlib.Core.Bool.{cond}
 use Rattle.strength.specs.Working.{wedgeOf}
 use Rattle.strength.proofs.Capacities.{share-bound}
 use Rattle.strength.proofs.terms.third_term.Statement.{statement}
 use Rattle.strength.proofs.terms.third_term.Tie as tie
 
-for-one : (planes x one two : ℕ) → planes ≡ 1 → x ≡ one → x ≡ choose (eqb planes 1) one two
+for-one : (planes x one two : ℕ) → planes ≡ 1 → x ≡ one → x ≡ cond (eqb planes 1) one two
 for-one planes x one two h e = rw (eq-eqb planes 1 h) e
 
-for-two : (planes x one two : ℕ) → (planes ≡ 1 → ⊥) → x ≡ two → x ≡ choose (eqb planes 1) one two
+for-two : (planes x one two : ℕ) → (planes ≡ 1 → ⊥) → x ≡ two → x ≡ cond (eqb planes 1) one two
 for-two planes x one two h e = rw (ne-eqb planes 1 h) e
 
 wedge : (x P D r s : ℕ) → x ≡ wedgeOf P D r → r ≡ s → x ≡ wedgeOf P D s

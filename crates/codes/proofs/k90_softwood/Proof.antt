@@ -1,0 +1,12 @@
+-- k90 is that of the definition, for thin dowels too.
+-- Assumes nothing.
+use native.Mathlib.Omega.{arith}
+use borrow.Author.Needs.{needs}
+use Rattle.codes.proofs.k90_softwood.Statement.{statement}
+use Rattle.codes.proofs.k90_softwood.Tie as tie
+
+returns : tie.Need-returns
+returns c = omega arith
+
+pub k90-softwood-spec : {M : Type 1} → statement M
+k90-softwood-spec = tie.close (tie.spec (λ c. search needs) (λ c. search needs) returns)

@@ -1,0 +1,24 @@
+-- Numbers in bytes (01, 'The record'). A stretch of bytes is their list; bytes past its end read as 0.
+use Prim.Native.Nat.{ℕ, _+_, _*_}
+use mathlib.Core.List.{List}
+use mathlib.Core.Bool.{cond}
+use lib.ListN.{getD}
+use lib.IntN.{ℤ, pos, _-ℤ_}
+use lib.Dec.{ltb}
+
+-- 'Numbers of more than one byte are little-endian; i32 is two's complement.'
+abbrev pub u8At : List ℕ → ℕ → ℕ
+u8At s i = getD s i 0
+
+abbrev pub u16At : List ℕ → ℕ → ℕ
+u16At s i = u8At s i + u8At s (i + 1) * 256
+
+abbrev pub u32At : List ℕ → ℕ → ℕ
+u32At s i = u16At s i + u16At s (i + 2) * 65536
+
+-- below 2^31 the number itself, from there on 2^32 less
+unfoldable pub twosComplement : ℕ → ℤ
+twosComplement n = cond (ltb n 2147483648) (pos n) (pos n -ℤ pos 4294967296)
+
+unfoldable pub i32At : List ℕ → ℕ → ℤ
+i32At s i = twosComplement (u32At s i)

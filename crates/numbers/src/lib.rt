@@ -1,0 +1,31 @@
+// Numbers of a record, at their byte.
+ghost use mathlib.Core.Path.{_≡_};
+ghost use Prim.Native.Nat.{_+_, _≤_, _<_, _^_};
+ghost use lib.ListN.{length};
+ghost use Rattle.numbers.specs.Numbers.{u16At, twosComplement, i32At};
+
+pub fn u16_at(s: &[u8], i: usize) -> u16
+    requires { ⌜ i + 2 ≤ length (now s) ⌝ }
+    ensures { λ r. ⌜ r ≡ u16At (now (s .entry)) i ⌝ }
+{
+    (s[i] as u16) + (s[i + 1] as u16) * 256
+}
+
+fn signed(n: u32) -> i32
+    ensures { λ r. ⌜ r ≡ twosComplement n ⌝ }
+{
+    if n < 2147483648 {
+        n as i32
+    } else {
+        -1 - ((4294967295 - n) as i32)
+    }
+}
+
+pub fn i32_at(s: &[u8], i: usize) -> i32
+    requires { ⌜ i + 4 ≤ length (now s) ⌝ }
+    ensures { λ r. ⌜ r ≡ i32At (now (s .entry)) i ⌝ }
+{
+    let low = u16_at(s, i) as u32;
+    let high = u16_at(s, i + 2) as u32;
+    signed(low + high * 65536)
+}
