@@ -1,6 +1,6 @@
 // Rows of dowels in a member (01, 'Rows, share and use').
 ghost use mathlib.Core.Path.{_≡_};
-ghost use mathlib.Core.Bool.{cond, not, _&&_};
+ghost use mathlib.Core.Bool.{cond, _&&_};
 ghost use Prim.Native.Nat.{_+_, _<_, _≤_, min};
 ghost use lib.Dec.{eqb};
 ghost use Rattle.group.specs.Rows.{rowNumber, nearest};

@@ -1,6 +1,6 @@
 -- What the refusals 7 to 9 leave: the ranges of an accepted record's values, as numbers.
 use Prim.Native.Nat.{ℕ, zero, suc, _+_, _*_, _%_, _≤_, _<_}
-use mathlib.Core.Path.{_≡_, refl, sym, ap, _∙_}
+use mathlib.Core.Path.{_≡_, refl, ap, _∙_}
 use mathlib.Core.Bool.{Bool, true, false, cond, not, _&&_}
 use native.Mathlib.Omega.{arith}
 use native.Mathlib.Decide.{decLt}
@@ -8,9 +8,9 @@ use native.Mathlib.Nat.{mul-le-mul, mul-pos}
 use borrow.Author.Tests.{leb-true, eqb-true, not-false}
 use lib.Dec.{leb, eqb}
 use lib.IntN.{natAbs}
-use Rattle.codes.specs.Tables.{densityOf, steelOf, kmodOf, k90Of, listed}
+use Rattle.codes.specs.Tables.{densityOf, steelOf, kmodOf, listed}
 use Rattle.strength.specs.Shear.{MemberWithin, PlaneWithin}
-use Rattle.spacing.specs.Spacing.{along, Components}
+use Rattle.spacing.specs.Spacing.{Components}
 use Rattle.joint.specs.declared.Member.{Member}
 use Rattle.joint.specs.declared.Values.{Values}
 use Rattle.joint.specs.Refusal.{

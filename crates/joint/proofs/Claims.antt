@@ -1,5 +1,5 @@
 -- The report that is made meets the top claim, for every sequence of bytes.
-use Prim.Native.Nat.{ℕ, _+_, _*_, _/_, _≤_, _<_, min}
+use Prim.Native.Nat.{ℕ, _/_, _≤_, _<_, min}
 use mathlib.Core.Path.{_≡_, refl, sym, ap, _∙_, subst⁻¹}
 use mathlib.Core.Bool.{Bool, true, false, cond, not, false≢true}
 use mathlib.Core.List.{List}
@@ -8,15 +8,13 @@ use native.Mathlib.Nat.{le-trans}
 use borrow.Author.Tests.{eq-eqb, ne-eqb, eqb-true, eqb-false, le-leb, lt-leb}
 use lib.Dec.{eqb, lit≤}
 use lib.ListN.{take}
-use Rattle.strength.specs.Fraction.{_over_, whole}
-use Rattle.strength.specs.Shear.{AtMostR, AboveR, PlaneWithin}
+use Rattle.strength.specs.Shear.{PlaneWithin}
 use Rattle.strength.specs.Working.{capacityOf}
 use Rattle.strength.proofs.Capacities.{capacity-low, capacity-high, newtons-low, newtons-high}
 use Rattle.strength.proofs.Floors.{capacity-floor}
 use Rattle.strength.proofs.Most.{at-most-meganewtons}
-use Rattle.spacing.specs.declared.verdict.Fault.{Fault}
 use Rattle.spacing.specs.Verdict.{fault}
-use Rattle.spacing.specs.Spacing.{along, across, frameOf, Given}
+use Rattle.spacing.specs.Spacing.{along, across, frameOf}
 use Rattle.group.specs.Share.{shareOf, memberShare}
 use Rattle.group.proofs.Bracket.{share-bracket, row-share-bracket}
 use Rattle.group.proofs.Floor.{share-from}
@@ -30,9 +28,9 @@ use Rattle.joint.specs.declared.report.Verdict.the-variants.{Fits, Overl
 use Rattle.joint.specs.declared.Outcome.{Outcome}
 use Rattle.joint.specs.Layout.{valuesOf}
 use Rattle.joint.specs.Refusal.{refusalOf, refusalNumber, drillFault, spaced, fieldsWithin, noForce, outcomeOf, outcome, zeroValues}
-use Rattle.joint.specs.Use.{planeOf, rowOf, spacingOf, EveryRow, SomeRow, NotAboveRow, ShareBracket, CapacityBracket, UseBracket, forceAlong}
-use Rattle.joint.specs.Claim.{Accepted, Answered, Unanswered, Judged, InputJudged, TooLong, verdictOf}
-use Rattle.joint.specs.Workings.{shareIn, useIn, useOf, demandOf, answered, unanswered, reportOf, inputReport, DemandWithin, RowWithin, Passed}
+use Rattle.joint.specs.Use.{planeOf, EveryRow, SomeRow, ShareBracket, CapacityBracket, UseBracket, forceAlong}
+use Rattle.joint.specs.Claim.{Accepted, Answered, Judged, InputJudged, verdictOf}
+use Rattle.joint.specs.Workings.{shareIn, useIn, answered, unanswered, reportOf, inputReport, RowWithin, Passed}
 use Rattle.joint.proofs.Order.{unnumbered}
 use Rattle.joint.proofs.Faults.{given, outcome-accepted}
 use Rattle.joint.proofs.Accepted.{fields-hold, plane-within, total-some, total-small, along-small, check-within}

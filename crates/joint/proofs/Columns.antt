@@ -4,13 +4,13 @@ use native.Mathlib.Nat.{le-of-lt, lt-irrefl}
 use native.Mathlib.Numerals.{add-one}
 use native.Mathlib.Decide.{le-ind}
 use native.Mathlib.Omega.{arith}
-use mathlib.Core.Path.{_≡_, refl, sym, ap, _∙_}
+use mathlib.Core.Path.{_≡_, refl, sym, _∙_}
 use mathlib.Core.List.{List}
-use mathlib.Core.Bool.{Bool, true, false, _&&_, and-false}
+use mathlib.Core.Bool.{Bool, true, false, and-false}
 use borrow.Author.Tests.{leb-true, leb-false}
 use lib.Dec.{leb}
 use lib.IntN.{ℤ, pos}
-use lib.ListN.{length, getD, set, replicate, length-set, length-replicate}
+use lib.ListN.{length, getD, set, replicate, length-set}
 use lib.Seq.{set-out, getD-set-same, getD-set-other}
 use Rattle.numbers.specs.Numbers.{u8At, i32At}
 use Rattle.joint.specs.Layout.{partOfKind, column, positionsIn, valuesOf}

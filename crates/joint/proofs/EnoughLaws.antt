@@ -1,36 +1,18 @@
 -- 'Enough' says something: it is upward closed, some v is enough and some v > 0 is not; and how a single g and a single e for each row
 -- settle it, though it speaks of all.
 use Prim.Native.Nat.{ℕ, _+_, _*_, _≤_, _<_}
-use mathlib.Core.Path.{_≡_, refl, ap, sym, _∙_}
 use mathlib.Core.Bool.{Bool, true, false, cond}
 use native.Mathlib.Omega.{arith}
-use native.Mathlib.Nat.{mul-pos, mul-le-mul-left, mul-le-mul-right, lt-of-not-le, le-of-mul-le-mul-right, le-of-mul-le-mul-left, le-of-lt}
+use native.Mathlib.Nat.{mul-pos, mul-le-mul-left, mul-le-mul-right}
 use lib.Dec.{eqb, lit<}
-use Rattle.strength.specs.Fraction.{Fraction, _over_, whole, _⊕_, _⊗_, _⊘_, _↑_, _≼_, Proper}
-use Rattle.strength.specs.Shear.{AtMostR, AboveR, PlaneWithin}
+use Rattle.strength.specs.Fraction.{Fraction, _over_, whole, _↑_, _≼_, Proper}
+use Rattle.strength.specs.Shear.{AtMostR, PlaneWithin}
 use Rattle.strength.proofs.Falling.{falls}
 use Rattle.wide.proofs.Powers.{square-le, square-is}
 use Rattle.group.proofs.Effective.{not-above-not-below}
 use Rattle.joint.specs.declared.Member.{Member}
 use Rattle.joint.specs.declared.Values.{Values}
-use Rattle.joint.specs.Use.{
-  squaredForce,
-  forceAlong,
-  planeOf,
-  rowOf,
-  spacingOf,
-  kmod,
-  countedPlanes,
-  Above0,
-  planeForce,
-  rowForce,
-  RowsEnough,
-  Enough,
-  NotAboveRow,
-  NotBelowRow,
-  WithinUse,
-  UseBracket,
-}
+use Rattle.joint.specs.Use.{squaredForce, forceAlong, planeOf, rowOf, spacingOf, kmod, countedPlanes, Above0, planeForce, rowForce, RowsEnough, Enough, NotAboveRow, UseBracket}
 
 -- what of a record the laws rest on
 pub record Sound (v : Values) : Type 0 where

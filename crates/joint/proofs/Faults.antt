@@ -4,57 +4,20 @@ use native.Mathlib.Omega.{arith}
 use mathlib.Core.Path.{_≡_, refl, sym, ap, _∙_}
 use mathlib.Core.List.{List, [], _∷_, _++_, map}
 use mathlib.Core.Bool.{Bool, true, false, cond, not, _&&_}
-use borrow.Author.Tests.{leb-true, eqb-true, eqb-false, ltb-true, not-true, not-false, eq-eqb, ne-eqb}
+use borrow.Author.Tests.{leb-true, eqb-true, eqb-false, not-false, ne-eqb}
 use lib.Dec.{leb, ltb, eqb}
 use lib.IntN.{ℤ, pos, negsuc, natAbs}
-use lib.Signed.{leZ}
-use lib.ListN.{length}
-use Rattle.spacing.specs.declared.verdict.Frame.{Frame}
 use Rattle.spacing.specs.declared.verdict.Fault.{Fault}
 use Rattle.spacing.specs.Spacing.{Given, tooClose, endTooNear, edgeTooNear}
 use Rattle.spacing.specs.Search.{firstFrom as searched, partner, firstPair}
-use Rattle.spacing.specs.Verdict.{fault, orElse, pairFault, endFault, edgeFault, oneDowel, verdictIn, memberVerdict, spacingVerdict}
+use Rattle.spacing.specs.Verdict.{fault, orElse, pairFault, endFault, edgeFault, verdictIn, memberVerdict, spacingVerdict}
 use Rattle.joint.specs.Layout.{valuesOf}
 use Rattle.joint.specs.Order.{tests, position}
-use Rattle.joint.specs.Refusal.{
-  between,
-  betweenZ,
-  force,
-  dowelWithin,
-  positionsWithin,
-  loadsWithin,
-  membersWithin,
-  fieldsWithin,
-  coordinates,
-  noForce,
-  refusal7,
-  refusal9,
-  fault10,
-  fault11,
-  fault12,
-  isFault,
-  refusal10,
-  refusal11,
-  refusal12,
-  scriptTests,
-  designerTests,
-  drillTests,
-  firstFrom,
-  refusalNumber,
-  drillFault,
-  refusalOf,
-  frame,
-  alongs,
-  acrosses,
-  refusedBy,
-  outcome,
-  outcomeOf,
-}
+use Rattle.joint.specs.Refusal.{between, force, dowelWithin, positionsWithin, loadsWithin, membersWithin, fieldsWithin, coordinates, noForce, fault10, fault11, fault12, isFault, scriptTests, designerTests, drillTests, firstFrom, refusalNumber, drillFault, refusalOf, frame, alongs, acrosses, refusedBy, outcome, outcomeOf}
 use Rattle.joint.specs.declared.Dowel.{Dowel}
 use Rattle.joint.specs.declared.Loads.{Loads}
 use Rattle.joint.specs.declared.Positions.{Positions}
 use Rattle.joint.specs.declared.Values.{Values}
-use Rattle.joint.specs.declared.Outcome.{Outcome}
 use Rattle.joint.specs.Stage.{stage, stageNumber}
 use Rattle.joint.specs.declared.Stage.{Stage}
 use Rattle.joint.specs.declared.Stage.the-variants.{Refused}

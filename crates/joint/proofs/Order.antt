@@ -1,13 +1,12 @@
 -- A refusal is returned exactly where its test holds and none before it does; a record is accepted exactly where none holds.
 use Prim.Native.Nat.{ℕ, zero, suc, _+_, _≤_, _<_, suc-le-suc}
-use native.Mathlib.Nat.{not-suc-le-zero, le-of-suc-le-suc, suc-inj}
+use native.Mathlib.Nat.{not-suc-le-zero, le-of-suc-le-suc}
 use native.Mathlib.Omega.{arith}
-use mathlib.Core.Path.{_≡_, refl, sym, ap, _∙_}
+use mathlib.Core.Path.{_≡_, refl, _∙_}
 use mathlib.Core.List.{List, [], _∷_, _++_}
 use mathlib.Core.Bool.{Bool, true, false}
 use mathlib.Core.Logic.{_↔_}
 use lib.ListN.{getD}
-use Rattle.joint.specs.Layout.{valuesOf}
 use Rattle.joint.specs.Order.{FirstAt, NoneHolds, tests, position}
 use Rattle.joint.specs.Refusal.{firstFrom, scriptTests, designerTests, refusalNumber, refusalOf}
 use Rattle.joint.proofs.Faults.{position-first}

@@ -1,6 +1,6 @@
 -- The plane and the demand that the code puts together are the record's.
 use Prim.Native.Nat.{ℕ, _≤_}
-use mathlib.Core.Path.{_≡_, _∙_, ap, ap₂, subst⁻¹}
+use mathlib.Core.Path.{_≡_, _∙_, ap₂, subst⁻¹}
 use Rattle.codes.specs.Tables.{steelOf, listed}
 use Rattle.strength.specs.Working.{capacityOf}
 use Rattle.strength.specs.declared.plane.Member as strengthMember

@@ -5,10 +5,10 @@ use native.Mathlib.Nat.{pos-of-ne-zero, not-suc-le-zero}
 use mathlib.Core.Path.{_≡_, refl, sym, ap, _∙_}
 use mathlib.Core.List.{List, [], _∷_, _++_}
 use mathlib.Core.Bool.{Bool, true, false, false≢true, cond, not, _&&_}
-use lib.Dec.{eqb, ltb, leb}
+use lib.Dec.{eqb, leb}
 use lib.ListN.{length, drop, length-drop}
 use lib.Seq.{length-take-le}
-use borrow.Author.Tests.{le-ltb, lt-ltb, ltb-false, leb-true, eq-eqb, eqb-true, eqb-false, not-true, not-false}
+use borrow.Author.Tests.{le-ltb, lt-ltb, ltb-false, eq-eqb, eqb-true, eqb-false, not-true, not-false}
 use Rattle.numbers.specs.Numbers.{u8At}
 use Rattle.joint.specs.Layout.{version, pairCount, pairOffset, pairLength, pairSum, partOfPair, kindOfPair, pairOfKind, partOfKind, valuesOf}
 use Rattle.joint.specs.Refusal.{refusal1, refusal2, refusal3, refusal4, refusal5, refusal6, pairFrom, positionsLength, oneIf, once, fieldsWithin, emptyOutlines, noForce, scriptTests, designerTests, firstFrom, refusalNumber}

@@ -2,16 +2,16 @@
 use Prim.Native.Nat.{ℕ, zero, suc, _+_, _*_, _≤_, _<_}
 use mathlib.Core.Path.{_≡_, refl, sym, ap, _∙_, subst, subst⁻¹, subst₂}
 use mathlib.Core.Bool.{Bool, true, false, cond}
-use mathlib.Core.List.{List, [], _∷_, _++_}
+use mathlib.Core.List.{List, [], _∷_}
 use native.Mathlib.Omega.{arith}
 use lib.ListN.{set, replicate}
-use lib.IntN.{ℤ, pos, negsuc}
+use lib.IntN.{pos, negsuc}
 use Rattle.spacing.specs.declared.verdict.Fault.{Fault}
 use Rattle.spacing.specs.Verdict.{fault, pairFault, endFault, edgeFault, verdictIn, memberVerdict, spacingVerdict}
 use Rattle.spacing.specs.Spacing.{alongEnough, endPasses, pairPasses, frameOf}
 use Rattle.spacing.specs.Search.{firstFrom as firstIndex, partner, firstPair}
 use Rattle.joint.specs.declared.report.Report.{Report}
-use Rattle.joint.specs.declared.report.Verdict.the-variants.{Fits, Overloaded, Refused}
+use Rattle.joint.specs.declared.report.Verdict.the-variants.{Fits, Overloaded}
 use borrow.Author.Tests.{le-leb, lt-leb}
 use Rattle.joint.specs.declared.Values.{Values}
 use Rattle.numbers.specs.Numbers.{twosComplement, i32At}
@@ -49,38 +49,20 @@ use Rattle.joint.specs.Refusal.{
 use native.Mathlib.Nat.{lt-of-not-le, mul-le-mul-right, lt-of-mul-lt-mul-left, not-le-of-lt}
 use mathlib.Core.Logic.{⊎-elim}
 use lib.Dec.{lit<, lit≤}
-use Rattle.strength.specs.Fraction.{Fraction, _over_, whole, _⊕_, _⊗_, _⊘_, _↑_, _≼_, Proper}
-use Rattle.strength.specs.Shear.{AtMostR, AboveR, PlaneWithin, bearing}
+use Rattle.strength.specs.Fraction.{Fraction, _over_, whole, _↑_, _≼_}
+use Rattle.strength.specs.Shear.{AtMostR, bearing}
 use Rattle.codes.specs.Tables.{densityOf, steelOf, kmodOf}
 use Rattle.strength.proofs.Falling.{falls}
 use Rattle.group.specs.Rows.{NotAbove, NotBelow, shareOver, countTo, leastTo, rowNumber, rowDistance}
-use Rattle.group.specs.Rows.NotBelow.{all, several}
+use Rattle.group.specs.Rows.NotBelow.{several}
 use Rattle.group.proofs.Effective.{not-above-falls}
 use Rattle.joint.specs.declared.Member.{Member}
 use Rattle.joint.specs.declared.Positions.{Positions}
 use Rattle.joint.specs.declared.Outline.{Outline}
-use Rattle.joint.specs.Use.{
-  planeOf,
-  rowOf,
-  spacingOf,
-  forceAlong,
-  squaredForce,
-  countedPlanes,
-  kmod,
-  Above0,
-  planeForce,
-  rowForce,
-  NotAboveRow,
-  EveryRow,
-  SomeRow,
-  Enough,
-  CapacityBracket,
-  ShareBracket,
-  UseBracket,
-}
+use Rattle.joint.specs.Use.{planeOf, rowOf, spacingOf, Above0, planeForce, rowForce, NotAboveRow, EveryRow, SomeRow, Enough, CapacityBracket, ShareBracket, UseBracket}
 use Rattle.joint.specs.Workings.{Passed}
 use Rattle.joint.proofs.Claims.{plane, known, clear, passed}
-use Rattle.joint.proofs.EnoughLaws.{Sound, RowBy, enough-up, enough-by, not-enough-by}
+use Rattle.joint.proofs.EnoughLaws.{Sound, RowBy, enough-up, enough-by}
 use Rattle.joint.specs.Claim.{Judged, Answered, Accepted}
 use Rattle.joint.specs.Starred.{
   membersB,

@@ -1,39 +1,20 @@
 -- The use of a record is within its bracket, given the brackets on the capacity and on the members' shares.
 use Prim.Native.Nat.{ℕ, _+_, _*_, _≤_, _<_}
-use mathlib.Core.Path.{_≡_, refl, ap, sym, _∙_}
 use mathlib.Core.Bool.{Bool, true, false, cond}
 use native.Mathlib.Omega.{arith}
 use native.Mathlib.Nat.{mul-pos}
 use lib.Dec.{eqb, lit<}
-use Rattle.strength.specs.Fraction.{Fraction, _over_, whole, _⊕_, _⊗_, _⊘_, _↑_, _≼_, _≈_, Proper}
+use Rattle.strength.specs.Fraction.{Fraction, _over_, whole, _≼_, Proper}
 use Rattle.strength.specs.Shear.{AtMostR, AboveR, PlaneWithin}
 use Rattle.strength.proofs.Falling.{falls}
-use Rattle.strength.proofs.Ratios.{≈-le, ≈-sym}
-use Rattle.spacing.specs.Spacing.{along, across}
+use Rattle.spacing.specs.Spacing.{across}
 use Rattle.group.specs.Rows.{shareOver}
 use Rattle.group.proofs.Effective.{not-above-not-below, above-not-below}
 use Rattle.group.proofs.Members.{row-some}
 use Rattle.joint.specs.declared.Member.{Member}
 use Rattle.joint.specs.declared.Values.{Values}
 use Rattle.joint.specs.declared.demand.Demand.{Demand}
-use Rattle.joint.specs.Use.{
-  squaredForce,
-  forceAlong,
-  planeOf,
-  rowOf,
-  spacingOf,
-  kmod,
-  countedPlanes,
-  Above0,
-  planeForce,
-  rowForce,
-  RowsEnough,
-  Enough,
-  WithinUse,
-  UseBracket,
-  EveryRow,
-  SomeRow,
-}
+use Rattle.joint.specs.Use.{squaredForce, forceAlong, planeOf, rowOf, spacingOf, kmod, Above0, planeForce, rowForce, RowsEnough, Enough, UseBracket, EveryRow, SomeRow}
 use Rattle.joint.specs.Workings.{twicePlanes, demandOf, useOf, rowUseOf, DemandWithin, RowWithin}
 use Rattle.joint.proofs.Uses.{forceBelow, force-below, force-enough, rows-enough, use-within, use-positive, U-row1, U-row2}
 

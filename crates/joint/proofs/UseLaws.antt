@@ -1,10 +1,9 @@
 -- The use over plain numbers: U is enough, and no more than a two-hundredth part plus 2 above what is enough.
 -- P is 'at most R', c/1000 is at most R and (c + 2)/1000 is above it; T2/2 planes count and h is kmod in hundredths.
-use Prim.Native.Nat.{ℕ, zero, suc, _+_, _*_, _^_, _≤_, _<_}
-use mathlib.Core.Path.{_≡_, refl, ap, sym, _∙_}
+use Prim.Native.Nat.{ℕ, _+_, _*_, _≤_, _<_}
 use native.Mathlib.Omega.{arith}
-use native.Mathlib.Nat.{mul-pos, mul-le-mul, mul-le-mul-left, mul-le-mul-right, mul-lt-mul-of-pos-right, le-of-lt, le-trans, lt-of-not-le, le-of-mul-le-mul-left, le-of-mul-le-mul-right, lt-of-mul-lt-mul-left}
-use Rattle.strength.specs.Fraction.{Fraction, _over_, whole, _⊕_, _⊗_, _⊘_, _↑_, _≼_, Proper}
+use native.Mathlib.Nat.{mul-pos, mul-le-mul, mul-le-mul-left, mul-le-mul-right, mul-lt-mul-of-pos-right, le-of-lt, lt-of-not-le, le-of-mul-le-mul-left, le-of-mul-le-mul-right, lt-of-mul-lt-mul-left}
+use Rattle.strength.specs.Fraction.{Fraction, _over_, whole, _↑_, _≼_, Proper}
 use Rattle.joint.specs.Use.{planeForce, rowForce, WithinUse, Above0}
 use Rattle.wide.proofs.Powers.{square-lt, square-is}
 use lib.Dec.{lit<}

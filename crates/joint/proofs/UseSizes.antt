@@ -1,8 +1,7 @@
 -- How large the numbers of the use are, within its ranges.
-use Prim.Native.Nat.{ℕ, _+_, _*_, _/_, _%_, _^_, _≤_, _<_}
-use mathlib.Core.Path.{_≡_}
+use Prim.Native.Nat.{ℕ, _+_, _*_, _/_, _^_, _≤_, _<_}
 use native.Mathlib.Omega.{arith}
-use native.Mathlib.Nat.{mul-pos, mul-le-mul, lt-of-le-of-lt}
+use native.Mathlib.Nat.{mul-pos, mul-le-mul}
 use lib.Dec.{lit<}
 use Rattle.wide.proofs.Powers.{square-lt}
 use Rattle.joint.specs.Workings.{RowWithin, CheckWithin}

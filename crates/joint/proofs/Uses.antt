@@ -1,12 +1,11 @@
 -- The reported use is enough, and within a two-hundredth part plus 2 of what is enough.
-use Prim.Native.Nat.{ℕ, _+_, _*_, _-_, _/_, _%_, _≤_, _<_, max}
-use mathlib.Core.Path.{_≡_, refl, ap, sym, _∙_}
+use Prim.Native.Nat.{ℕ, _+_, _*_, _-_, _/_, _≤_, _<_, max}
+use mathlib.Core.Path.{_≡_, ap}
 use mathlib.Core.Logic.{⊎-elim, _⊎_, inl, inr}
 use native.Mathlib.Omega.{arith}
 use native.Mathlib.Decide.{decLe}
-use native.Mathlib.Nat.{div-add-mod', mod-lt, mul-pos, mul-le-mul-left, mul-le-mul-right, mul-lt-mul-of-pos-right, mul-lt-mul-of-pos-left, lt-of-mul-lt-mul-left, lt-of-not-le}
-use lib.Dec.{lit<}
-use Rattle.strength.specs.Fraction.{Fraction, _over_, whole, _⊗_, _⊘_, _↑_, _≼_, Proper}
+use native.Mathlib.Nat.{div-add-mod', mod-lt, mul-le-mul-right, lt-of-not-le}
+use Rattle.strength.specs.Fraction.{Fraction, _over_, whole, _↑_, _≼_, Proper}
 use Rattle.strength.specs.Working.{squareRootOf}
 use Rattle.strength.specs.Roots.{SquareRoot}
 use Rattle.strength.proofs.Greatest.{square-root-of}

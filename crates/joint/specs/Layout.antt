@@ -3,9 +3,9 @@
 use Prim.Native.Nat.{ℕ, zero, suc, _+_, _*_}
 use mathlib.Core.List.{List}
 use mathlib.Core.Bool.{cond}
-use lib.ListN.{length, getD, take, drop, set, replicate}
-use lib.IntN.{ℤ, pos, _-ℤ_}
-use lib.Dec.{ltb, eqb}
+use lib.ListN.{take, drop, set, replicate}
+use lib.IntN.{ℤ, pos}
+use lib.Dec.{eqb}
 use Rattle.numbers.specs.Numbers.{u8At, u16At, i32At}
 use Rattle.joint.specs.declared.Outline.{Outline}
 use Rattle.joint.specs.declared.Member.{Member}

@@ -1,18 +1,16 @@
 -- Document 01, 'Rows, share and use': what of a record the figures depend on, and the brackets on them, in 01's order.
 -- Forces are in newtons, lengths in tenths of a millimetre, d in millimetres.
-use Prim.Native.Nat.{ℕ, _+_, _*_, _≤_, _<_}
-use mathlib.Core.Path.{_≡_}
+use Prim.Native.Nat.{ℕ, _+_, _*_, _<_}
 use mathlib.Core.Bool.{cond}
-use mathlib.Core.List.{List}
 use lib.Dec.{eqb}
-use lib.IntN.{ℤ, natAbs}
+use lib.IntN.{natAbs}
 use Rattle.strength.specs.Fraction.{Fraction, _over_, whole, _⊕_, _⊗_, _⊘_, _↑_, _≼_, Proper}
 use Rattle.codes.specs.Tables.{densityOf, steelOf, kmodOf, k90Of, listed}
 use Rattle.strength.specs.Shear.{AtMostR, AboveR}
 use Rattle.strength.specs.declared.plane.Member as strengthMember
 use Rattle.strength.specs.declared.plane.Plane.{Plane}
 use Rattle.spacing.specs.Spacing.{along, across}
-use Rattle.group.specs.Rows.{rowNumber, rowDistance, NotAbove, NotBelow, shareOver, SomeRowAbove, RowShareBracket}
+use Rattle.group.specs.Rows.{rowNumber, rowDistance, NotAbove, NotBelow, SomeRowAbove, RowShareBracket}
 use Rattle.group.specs.Rows.{EveryRow as EveryRowOf}
 use Rattle.joint.specs.Refusal.{spaced}
 use Rattle.joint.specs.declared.Member.{Member}

@@ -1,5 +1,5 @@
 -- Nobody needs to believe this: the brackets are the claim. It says which use within its bracket is reported.
-use Prim.Native.Nat.{ℕ, _+_, _*_, _-_, _/_, _%_, _≤_, _<_, max, min}
+use Prim.Native.Nat.{ℕ, _+_, _*_, _-_, _/_, _%_, _≤_, max, min}
 use mathlib.Core.Path.{_≡_}
 use Rattle.strength.specs.Working.{squareRootOf, capacityOf}
 use Rattle.codes.specs.Tables.{densityOf, k90Of, listed}

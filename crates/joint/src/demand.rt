@@ -2,7 +2,7 @@
 use strength::roots;
 ghost use mathlib.Core.Path.{_≡_};
 ghost use Prim.Native.Nat.{_+_, _<_, _≤_, max};
-ghost use Rattle.joint.specs.Workings.{ceilingOf, forceOf, totalUseOf, rowUseOf, useOf, RowWithin, DemandWithin, CheckWithin};
+ghost use Rattle.joint.specs.Workings.{ceilingOf, forceOf, totalUseOf, rowUseOf, useOf, RowWithin, DemandWithin};
 
 // What the use depends on: the squared force, its components along the members' grain in newtons, twice the number of shear planes
 // that count, kmod in hundredths, the capacity of a plane in thousandths of a newton, the members' row shares in ten-thousandths.

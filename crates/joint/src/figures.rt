@@ -19,10 +19,9 @@ ghost use mathlib.Core.Bool.{cond};
 ghost use Prim.Native.Nat.{_+_, _*_, _≤_, min};
 ghost use lib.Dec.{eqb};
 ghost use lib.IntN.{natAbs};
-ghost use Rattle.codes.specs.Tables.{densityOf, k90Of, listed};
 ghost use Rattle.strength.specs.Working.{capacityOf};
 ghost use Rattle.spacing.specs.Spacing.{along};
-ghost use Rattle.joint.specs.Use.{squaredForce, forceAlong, kmod, planeOf};
+ghost use Rattle.joint.specs.Use.{kmod, planeOf};
 ghost use Rattle.joint.specs.Claim.{verdictOf};
 ghost use Rattle.joint.specs.Workings.{Passed, memberIn, sharesIn, demandOf, answered};
 

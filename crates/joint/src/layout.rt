@@ -6,7 +6,6 @@ ghost use mathlib.Core.Path.{_≡_};
 ghost use mathlib.Core.List.{[], _∷_};
 ghost use Prim.Native.Nat.{_+_, _≤_, _<_};
 ghost use lib.ListN.{length};
-ghost use Rattle.numbers.specs.Numbers.{u8At};
 ghost use Rattle.joint.specs.Layout.{partOfPair, kindOfPair, pairOfKind, partOfKind};
 ghost use Rattle.joint.specs.Refusal.{refusal4, refusal5, refusal6, positionsLength, firstFrom, scriptTests};
 ghost use Rattle.joint.specs.Stage.{stage, headerTests, pairStage, weightOf, Chained};

@@ -9,7 +9,7 @@ use Rattle.spacing.specs.declared.verdict.Member.{Member}
 use Rattle.spacing.specs.declared.verdict.Frame.{Frame}
 use Rattle.spacing.specs.declared.verdict.Fault.{Fault}
 use Rattle.spacing.specs.Spacing.{along, across, frameOf, tooClose}
-use Rattle.spacing.specs.Says.{MemberSays, JointSays, NoPair, Says}
+use Rattle.spacing.specs.Says.{MemberSays, JointSays, NoPair}
 use Rattle.spacing.specs.Says.MemberSays.{close, end, edge, passes}
 use Rattle.spacing.specs.Says.JointSays.{side, middle}
 

@@ -1,5 +1,4 @@
 -- `judge_input` meets its contract.
-use native.Mathlib.Omega.{arith}
 use borrow.Author.Needs.{needs}
 use mathlib.Core.Path.{_∙_, ap, sym}
 use lib.Seq.{take-all, length-take-le}

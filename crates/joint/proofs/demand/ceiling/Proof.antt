@@ -1,5 +1,4 @@
 -- `demand::ceiling` meets its contract.
-use native.Mathlib.Omega.{arith}
 use borrow.Author.Needs.{needs}
 use Rattle.joint.specs.Workings.{ceilingOf}
 use mathlib.Core.Path.{refl}

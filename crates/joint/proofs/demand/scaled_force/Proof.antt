@@ -3,8 +3,6 @@ use native.Mathlib.Omega.{arith}
 use borrow.Author.Needs.{needs}
 use mathlib.Core.Path.{ap}
 use Prim.Native.Nat.{ℕ, _+_, _*_, _^_, _<_}
-use lib.Dec.{lit<}
-use native.Mathlib.Nat.{lt-of-le-of-lt}
 use Rattle.strength.proofs.Greatest.{square-root-is}
 use Rattle.joint.specs.Workings.{forceOf}
 use Rattle.joint.proofs.UseSizes.{root-small, root-fits}

@@ -1,5 +1,4 @@
 -- `demand::use_ten_thousandths` meets its contract.
-use native.Mathlib.Omega.{arith}
 use borrow.Author.Needs.{needs}
 use mathlib.Core.Path.{_∙_, ap₂}
 use Prim.Native.Nat.{max}

@@ -1,5 +1,4 @@
 -- `figures::demand_of` meets its contract.
-use native.Mathlib.Omega.{arith}
 use borrow.Author.Needs.{needs}
 use mathlib.Core.Path.{_∙_, ap}
 use Rattle.codes.specs.Tables.{listed}

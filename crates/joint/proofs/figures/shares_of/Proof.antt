@@ -1,5 +1,4 @@
 -- `figures::shares_of` meets its contract.
-use native.Mathlib.Omega.{arith}
 use borrow.Author.Needs.{needs}
 use mathlib.Core.Path.{_∙_}
 use Rattle.group.specs.Share.{sharesOf}

@@ -1,5 +1,4 @@
 -- `figures::twice_planes` meets its contract.
-use borrow.Author.Needs.{needs}
 use native.Mathlib.Omega.{arith}
 use borrow.Author.Tests.{eq-eqb, ne-eqb}
 use Rattle.joint.proofs.UseSizes.{planes-small}

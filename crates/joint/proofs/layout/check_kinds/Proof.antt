@@ -2,7 +2,7 @@
 -- Assumes nothing.
 use borrow.Author.Needs.{needs}
 use native.Mathlib.Omega.{arith}
-use Prim.Native.Nat.{ℕ, _+_}
+use Prim.Native.Nat.{ℕ}
 use denote.Ref.{now}
 use mathlib.Core.Path.{_≡_, _∙_, ap}
 use Rattle.joint.specs.Refusal.{firstFrom}
