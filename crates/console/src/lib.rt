@@ -3,6 +3,7 @@ use joint::report::Report;
 use joint::report::Verdict;
 use libc::STDOUT_FILENO;
 ghost use mathlib.Core.Path.{_≡_};
+ghost use Prim.Native.Nat.{_≤_};
 ghost use Rattle.joint.specs.Claim.{InputJudged};
 ghost use Rattle.joint.specs.Workings.{inputReport};
 
@@ -40,6 +41,7 @@ pub fn judge_input(buffer: &[u8], count: usize, more: bool) -> Report
 // Reads up to 4,096 bytes into the buffer, judges them, writes the line, and hands back what was judged.
 pub fn answer(fd: i32, buffer: &mut [u8; 4096]) -> Judged
     ensures { λ r. ⌜ InputJudged (now (buffer .exit)) (r .count) (r .more) (r .report) ⌝ }
+    ensures { λ r. ⌜ r .count ≤ 4096 ⌝ }
 {
     let count = io::read_full(fd, buffer);
     let mut next = [0u8; 1];

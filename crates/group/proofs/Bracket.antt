@@ -1,6 +1,6 @@
 -- The share that the rows leave is the exact floor, and lies in its bracket.
 -- Assumes nothing.
-use mathlib.Core.Path.{_≡_, refl, sym, ap, ap₂, _∙_, fun-ext}
+use mathlib.Core.Path.{_≡_, refl, sym, ap, ap₂, _∙_, fun-ext, subst⁻¹}
 use mathlib.Core.Bool.{Bool, true, false, cond, not, _&&_, true≢false, false≢true}
 use mathlib.Core.List.{List}
 use mathlib.Core.Logic.{inl, inr}
@@ -30,7 +30,7 @@ use lib.Pow.{pow-add}
 use lib.IntN.{ℤ, natAbs, _-ℤ_}
 use Rattle.wide.proofs.Powers.{mul-pow, fifth-is}
 use Rattle.spacing.specs.Spacing.{along, across, place, distance}
-use Rattle.group.specs.Rows.{sameRow, other, countTo, rowNumber, nearest, rowDistance, NotAbove, shareOver, EveryRow, ShareBracket, RowShareBracket, LeastDistance}
+use Rattle.group.specs.Rows.{sameRow, other, countTo, rowNumber, nearest, rowDistance, NotAbove, shareOver, EveryRow, ShareBracket, MemberShareBracket, RowShareBracket, LeastDistance, RowsGiven}
 use Rattle.group.specs.Share.{units, rowPasses, allTo, sharesTo, memberShare, shareOf, rowShare}
 use Rattle.spacing.specs.declared.verdict.Member.{Member}
 use Rattle.spacing.proofs.Integers.{same-place, no-distance, difference-size}
@@ -289,6 +289,14 @@ pub same-grain :
     shareOf m₁ d x y count ≡ shareOf m₂ d x y count
 unfolding shareOf
 same-grain m₁ m₂ d x y count h = ap (λ (g : ℕ). memberShare d (along g x y) (across g x y) count) h
+
+-- what is equal to a member's share lies in its bracket
+pub member-bracket :
+    (m : Member) (d : ℕ) (x y : List ℤ) (count e : ℕ) → RowsGiven d count → e ≡ shareOf m d x y count →
+    MemberShareBracket m d x y count e
+unfolding shareOf
+member-bracket m d x y count e g h =
+    subst⁻¹ (ShareBracket d (along (m .grain) x y) (across (m .grain) x y) count) h (share-bracket d _ _ count (g .thick) (g .some))
 
 -- ---- the lesser of both members'
 less-not-above :

@@ -73,6 +73,10 @@ pub record ShareBracket (d : ℕ) (a b : List ℤ) (count e : ℕ) : Type 0 wher
   pub every : EveryRow d a b count e
   pub some : SomeRowAbove d a b count (e + 2)
 
+-- The rows of one member of a record.
+abbrev pub MemberShareBracket : Member → ℕ → List ℤ → List ℤ → ℕ → ℕ → Type 0
+MemberShareBracket m d x y count e = ShareBracket d (along (m .grain) x y) (across (m .grain) x y) count e
+
 -- The rows of both members.
 pub record RowShareBracket (m₁ m₂ : Member) (d : ℕ) (x y : List ℤ) (count e : ℕ) : Type 0 where
   pub side : EveryRow d (along (m₁ .grain) x y) (across (m₁ .grain) x y) count e
@@ -82,7 +86,7 @@ pub record RowShareBracket (m₁ m₂ : Member) (d : ℕ) (x y : List ℤ) (coun
       ⊎ SomeRowAbove d (along (m₂ .grain) x y) (across (m₂ .grain) x y) count (e + 2)
 
 -- What a1 is, in other words: two dowels of the row of dowel i lie a1 apart along the grain, and no two of it lie closer. A law
--- shows it of `rowDistance` for a row of several dowels.
+-- shows it of `rowDistance` for a row of several dowels within 01's coordinates.
 pub record LeastDistance (a b : List ℤ) (count i a1 : ℕ) : Type 0 where
   pub one : ℕ
   pub two : ℕ

@@ -4,7 +4,7 @@ ghost use Prim.Native.Nat.{_*_, _^_, _≤_};
 ghost use lib.Dec.{leb};
 ghost use Rattle.wide.specs.Natural.{value};
 ghost use Rattle.strength.specs.Roots.{FactorWithin};
-ghost use Rattle.group.specs.Rows.{RowsGiven};
+ghost use Rattle.group.specs.Rows.{RowsGiven, MemberShareBracket};
 ghost use Rattle.group.specs.Share.{
   units,
   RowWithin,
@@ -141,6 +141,7 @@ fn share_in(d: u64, a: &[i32; 64], b: &[i32; 64], count: usize) -> u64
 // The share of a member.
 pub fn member_share(m: Member, d: u64, x: [i32; 64], y: [i32; 64], count: usize) -> u64
     requires { ⌜ RowsGiven d count ⌝ }
+    ensures { λ r. ⌜ MemberShareBracket m d x y count r ⌝ }
     ensures { λ r. ⌜ r ≡ shareOf m d x y count ⌝ }
 {
     if m.grain == 0 {
@@ -159,6 +160,8 @@ pub fn both_shares(
     count: usize,
 ) -> Shares
     requires { ⌜ RowsGiven d count ⌝ }
+    ensures { λ r. ⌜ MemberShareBracket side d x y count (r .side) ⌝ }
+    ensures { λ r. ⌜ MemberShareBracket middle d x y count (r .middle) ⌝ }
     ensures { λ r. ⌜ r ≡ sharesOf side middle d x y count ⌝ }
 {
     let first = member_share(side, d, x, y, count);

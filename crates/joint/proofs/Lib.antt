@@ -10,5 +10,6 @@ pub mod Uses
 pub mod UseBrackets
 pub mod EnoughLaws
 pub mod Claims
+pub mod Meaning
 pub mod Planes
 pub mod Stars

@@ -61,26 +61,13 @@ use Rattle.joint.specs.declared.Positions.{Positions}
 use Rattle.joint.specs.declared.Outline.{Outline}
 use Rattle.joint.specs.Use.{planeOf, rowOf, spacingOf, Above0, planeForce, rowForce, NotAboveRow, EveryRow, SomeRow, Enough, CapacityBracket, ShareBracket, UseBracket}
 use Rattle.joint.specs.Workings.{Passed}
-use Rattle.joint.proofs.Claims.{plane, known, clear, passed}
-use Rattle.joint.proofs.EnoughLaws.{Sound, RowBy, enough-up, enough-by}
+use Rattle.joint.proofs.Claims.{plane, clear, passed}
+use Rattle.joint.proofs.Meaning.{sound, no-refusal}
+use Rattle.joint.proofs.EnoughLaws.{RowBy, enough-up, enough-by}
 use Rattle.joint.specs.Claim.{Judged, Answered, Accepted}
-use Rattle.joint.specs.Starred.{
-  membersB,
-  dowelB,
-  positionsB,
-  loadsB,
-  headerB,
-  loneHeader,
-  lonePositions,
-  recordOf,
-  jointB,
-  RefusedAs,
-  Within,
-  SaysSo,
-  Starred,
-  starred,
-}
+use Rattle.joint.specs.Starred.{membersB, dowelB, positionsB, loadsB, headerB, loneHeader, lonePositions, pairHeader, pairPositions, pairLoads, recordOf, jointB, RefusedAs, Within, SaysSo, Starred, starred}
 use Rattle.joint.specs.Starred.Prints.{
+  noRefusal,
   fitsWith,
   verdict,
   overloadedWith,
@@ -106,16 +93,6 @@ not-more a b f = omega (arith, lt-of-not-le f)
 
 -- ---- accepted records: from the claim and a few tests at numerals to 01's ranges
 -- a record's values where it is accepted
--- an accepted record's values are sound for the laws of 'enough'
-pub sound : (v : Values) → Passed v → Sound v
-sound v p = record {
-  plane = plane v p;
-  dowels = p .fields .dowels-low;
-  shear = p .fields .planes-low;
-  diameter = omega (arith, p .fields .diameter-low);
-  kmod-some = omega (arith, known v p .demand .check .kmod-low);
-}
-
 module _ (v : Values) (p : Passed v) where
   abbrev R : Fraction → Type 0
   R = AtMostR (planeOf v)
@@ -340,6 +317,14 @@ refused-199 : refusalOf (recordOf headerB (set (set membersB 4 199) 5 0) dowelB 
 unfolding refusalOf refusalNumber firstFrom refusal1 refusal2 refusal3 pairFrom refusal4 oneIf once refusal5 positionsLength refusal6 coordinate force knownClass outlineWithin memberWithin membersWithin dowelWithin coordinates positionsWithin loadsWithin fieldsWithin outlineEmpty emptyOutlines noForce drillFault twosComplement i32At partOfPair pairOfKind outlineAt memberAt membersIn dowelIn column positionsIn loadsIn valuesOf pairFault endFault edgeFault verdictIn memberVerdict spacingVerdict alongEnough endPasses firstIndex partner firstPair
 refused-199 = refl
 
+accepted-504 : Accepted (recordOf pairHeader membersB dowelB (pairPositions 248 1) pairLoads)
+unfolding refusalOf refusalNumber firstFrom refusal1 refusal2 refusal3 pairFrom refusal4 oneIf once refusal5 positionsLength refusal6 coordinate force knownClass outlineWithin memberWithin membersWithin dowelWithin coordinates positionsWithin loadsWithin fieldsWithin outlineEmpty emptyOutlines noForce drillFault twosComplement i32At partOfPair pairOfKind outlineAt memberAt membersIn dowelIn column positionsIn loadsIn valuesOf pairFault endFault edgeFault verdictIn memberVerdict spacingVerdict alongEnough endPasses firstIndex partner firstPair
+accepted-504 = refl
+
+refused-503 : refusalOf (recordOf pairHeader membersB dowelB (pairPositions 247 1) pairLoads) ≡ fault 10 1 1 2
+unfolding refusalOf refusalNumber firstFrom refusal1 refusal2 refusal3 pairFrom refusal4 oneIf once refusal5 positionsLength refusal6 coordinate force knownClass outlineWithin memberWithin membersWithin dowelWithin coordinates positionsWithin loadsWithin fieldsWithin outlineEmpty emptyOutlines noForce drillFault twosComplement i32At partOfPair pairOfKind outlineAt memberAt membersIn dowelIn column positionsIn loadsIn valuesOf pairFault endFault edgeFault verdictIn memberVerdict spacingVerdict alongEnough endPasses firstIndex partner firstPair
+refused-503 = refl
+
 capacity-B : AtMostR (planeOf (kin 20000 600 fourDowels)) (whole 7441)
 unfolding planeOf bearing densityOf steelOf
 capacity-B = record { first = lit≤ tt; second = record { within = lit≤ tt; square = lit≤ tt }; third = lit≤ tt }
@@ -495,6 +480,9 @@ star-lone r j =
       share = share-lone (r .share) (h .share);
     }
 
+star-504 : Holds (record { bytes = recordOf pairHeader membersB dowelB (pairPositions 248 1) pairLoads; prints = noRefusal })
+star-504 r j = record { verdict = λ e. no-refusal (r .usage) (sym (j .accepted accepted-504 .verdict) ∙ e); number = j .number ∙ accepted-504 }
+
 -- every report for which the claim holds on a starred joint's bytes says what 01 prints of it
 pub stars : AllHold starred
 stars = (
@@ -513,7 +501,7 @@ stars = (
               star-200,
               (
                 refused-row _ (fault 7 0 0 0) refused-199 (λ e. omega arith),
-                (star-lone, tt),
+                (star-lone, (star-504, (refused-row _ (fault 10 1 1 2) refused-503 (λ e. omega arith), tt))),
               ),
             ),
           ),

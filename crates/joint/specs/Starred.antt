@@ -43,8 +43,19 @@ loneHeader = 1 ∷ 0 ∷ 4 ∷ 0 ∷ 20 ∷ 0 ∷ 42 ∷ 0 ∷ 62 ∷ 0 ∷ 3 �
 abbrev pub lonePositions : List ℕ
 lonePositions = 3 ∷ 1 ∷ 0 ∷ 0 ∷ 0 ∷ 0 ∷ 0 ∷ 0 ∷ 0 ∷ 0 ∷ []
 
--- what 01 prints: a refusal with its place; or the verdict, with C, E and U from the first to the second of each pair
+-- with force (3,000, 4,000) and two dowels, across 0 and the second one along by low + 256 high tenths
+abbrev pub pairHeader : List ℕ
+pairHeader = 1 ∷ 0 ∷ 4 ∷ 0 ∷ 20 ∷ 0 ∷ 42 ∷ 0 ∷ 62 ∷ 0 ∷ 3 ∷ 0 ∷ 65 ∷ 0 ∷ 18 ∷ 0 ∷ 83 ∷ 0 ∷ 11 ∷ 0 ∷ []
+
+abbrev pub pairPositions : ℕ → ℕ → List ℕ
+pairPositions low high = 3 ∷ 2 ∷ 0 ∷ 0 ∷ 0 ∷ 0 ∷ 0 ∷ 0 ∷ 0 ∷ 0 ∷ low ∷ high ∷ 0 ∷ 0 ∷ 0 ∷ 0 ∷ 0 ∷ 0 ∷ []
+
+abbrev pub pairLoads : List ℕ
+pairLoads = 4 ∷ 1 ∷ 3 ∷ 184 ∷ 11 ∷ 0 ∷ 0 ∷ 160 ∷ 15 ∷ 0 ∷ 0 ∷ []
+
+-- what 01 prints: no refusal; a refusal with its place; or the verdict, with U, C and E from the first to the second of each pair
 pub data Prints : Type 0 where
+  noRefusal : Prints
   refused : ℕ → ℕ → ℕ → ℕ → Prints
   verdict : Verdict → Prints
   overloadedWith : ℕ → ℕ → Prints
@@ -54,6 +65,10 @@ pub data Prints : Type 0 where
 pub record Within (low high n : ℕ) : Type 0 where
   pub from : low ≤ n
   pub to : n ≤ high
+
+pub record PassesAs (r : Report) : Type 0 where
+  pub verdict : r .verdict ≡ Refused → ⊥
+  pub number : r .number ≡ 0
 
 pub record RefusedAs (n m i j : ℕ) (r : Report) : Type 0 where
   pub verdict : r .verdict ≡ Refused
@@ -78,6 +93,7 @@ pub record LoneAs (uLow uHigh eLow eHigh : ℕ) (r : Report) : Type 0 where
 
 -- a report says what is printed
 abbrev pub SaysSo : Prints → Report → Type 0
+SaysSo noRefusal r = PassesAs r
 SaysSo (refused n m i j) r = RefusedAs n m i j r
 SaysSo (verdict v) r = r .verdict ≡ v
 SaysSo (overloadedWith a b) r = OverloadedAs a b r
@@ -110,4 +126,7 @@ starred =
           recordOf loneHeader membersB dowelB lonePositions (set (set loadsB 3 184) 4 11);
       prints = loneWith 6552 6586 9999 10000;
     }
+    -- force (3,000, 4,000), d 12, grain x, across 0: along 504 passes the pair rule, 503 doesn't
+    ∷ record { bytes = recordOf pairHeader membersB dowelB (pairPositions 248 1) pairLoads; prints = noRefusal }
+    ∷ record { bytes = recordOf pairHeader membersB dowelB (pairPositions 247 1) pairLoads; prints = refused 10 1 1 2 }
     ∷ []

@@ -1,4 +1,4 @@
-// Signed coordinates and components: everything above these leaves is unsigned.
+// Distances and signs of signed coordinates and components.
 ghost use mathlib.Core.Path.{_≡_};
 ghost use lib.IntN.{pos, negℤ, natAbs, _-ℤ_};
 ghost use lib.Signed.{leZ};

@@ -1,4 +1,4 @@
--- What the inner routines ask and hand on: numbers in limbs, with as many bits as their arrays hold.
+-- What the inner routines ask and hand on: numbers in limbs, with as many bits as their arrays hold. Nobody needs to believe this.
 -- Assumes nothing.
 use Prim.Native.Nat.{ℕ, _+_, _*_, _-_, _^_, _≤_, _<_}
 use mathlib.Core.Path.{_≡_}

@@ -1,5 +1,6 @@
 -- `console::answer` meets its contract: what `judge_input` ensures of the buffer, the count and what came after it.
 use borrow.Author.Needs.{needs}
+use native.Mathlib.Omega.{arith}
 use Rattle.console.proofs.answer.Statement.{statement}
 use Rattle.console.proofs.answer.Tie as tie
 
@@ -25,7 +26,9 @@ write-all-requires : tie.Need-write-all-requires
 write-all-requires c κs = search needs
 
 returns : tie.Need-returns
-returns c = c .before .before .before .judge-input .ensures .0
+returns c =
+    let read = c .before .before .before .before .before .before .before .before .before .read-full in
+    (c .before .before .before .judge-input .ensures .0, omega (arith, read .ensures .0, read .kept))
 
 pub answer-spec : {M : Type 1} → statement M
 answer-spec =

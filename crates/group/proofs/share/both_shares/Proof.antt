@@ -2,7 +2,7 @@
 -- Assumes nothing.
 use borrow.Author.Needs.{needs}
 use mathlib.Core.Path.{_∙_}
-use Rattle.group.proofs.Bracket.{same-grain}
+use Rattle.group.proofs.Bracket.{same-grain, member-bracket}
 use Rattle.group.proofs.share.both_shares.Statement.{statement}
 use Rattle.group.proofs.share.both_shares.Tie as tie
 
@@ -11,17 +11,20 @@ member-share-requires c κs = search needs
 
 returns : tie.Need-returns
 returns c =
-    let k = c .before .before .before .before .args in
-    let e = c .before .before .before .member-share .ensures in
-    let s = e ∙ same-grain (k .side) (k .middle) (k .d) (k .x) (k .y) (k .count) (c .if1 .taken) in
-    λ i. record { side = e i; middle = s i }
+    let b = c .before .before .before .before in
+    let k = b .args in
+    let first = c .before .before .before .member-share .ensures in
+    let s = first .1 ∙ same-grain (k .side) (k .middle) (k .d) (k .x) (k .y) (k .count) (c .if1 .taken) in
+    (first .0, (member-bracket (k .middle) (k .d) (k .x) (k .y) (k .count) _ (b .pre) s, λ i. record { side = first .1 i; middle = s i }))
 
 member-share-requires-2 : tie.Need-member-share-requires-2
 member-share-requires-2 c κs = search needs
 
 returns-2 : tie.Need-returns-2
 returns-2 c =
-    λ i. record { side = c .before .before .before .before .member-share .ensures i; middle = c .member-share2 .ensures i }
+    let first = c .before .before .before .before .member-share .ensures in
+    let second = c .member-share2 .ensures in
+    (first .0, (second .0, λ i. record { side = first .1 i; middle = second .1 i }))
 
 pub both-shares-spec : {M : Type 1} → statement M
 both-shares-spec =

@@ -18,7 +18,7 @@ both-shares-requires : tie.Need-both-shares-requires
 both-shares-requires c κs = search needs
 
 returns : tie.Need-returns
-returns c = c .both-shares .ensures
+returns c = c .both-shares .ensures .1 .1
     ∙ (λ i. sharesOf (c .before .before .before .before .before .before .before .spaced .ensures i) (c .before .before .before .before .before .before .spaced2 .ensures i) (c .before .before .before .before .before .before .before .before .before .args .v .dowel .diameter) (c .before .before .before .before .before .before .before .before .before .args .v .positions .x) (c .before .before .before .before .before .before .before .before .before .args .v .positions .y) (c .before .before .before .before .before .before .before .before .before .args .v .positions .n))
 
 pub shares-of-spec : {M : Type 1} → statement M
