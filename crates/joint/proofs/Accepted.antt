@@ -13,19 +13,8 @@ use Rattle.strength.specs.Shear.{MemberWithin, PlaneWithin}
 use Rattle.spacing.specs.Spacing.{Components}
 use Rattle.joint.specs.declared.Member.{Member}
 use Rattle.joint.specs.declared.Values.{Values}
-use Rattle.joint.specs.Refusal.{
-  between,
-  force,
-  knownClass,
-  outlineWithin,
-  coordinates,
-  memberWithin,
-  membersWithin,
-  dowelWithin,
-  positionsWithin,
-  loadsWithin,
-  fieldsWithin,
-}
+use Rattle.numbers.specs.Numbers.{force}
+use Rattle.joint.specs.Refusal.{between, knownClass, outlineWithin, coordinates, memberWithin, membersWithin, dowelWithin, positionsWithin, loadsWithin, fieldsWithin}
 use Rattle.joint.specs.Workings.{MemberHolds, FieldsHold, CheckWithin, twicePlanes}
 use Rattle.joint.specs.Use.{squaredForce, forceAlong, planeMember, planeOf, kmod}
 use Rattle.joint.proofs.Tests.{first-of, second-of}

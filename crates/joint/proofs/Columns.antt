@@ -14,7 +14,8 @@ use lib.ListN.{length, getD, set, replicate, length-set}
 use lib.Seq.{set-out, getD-set-same, getD-set-other}
 use Rattle.numbers.specs.Numbers.{u8At, i32At}
 use Rattle.joint.specs.Layout.{partOfKind, column, positionsIn, valuesOf}
-use Rattle.joint.specs.Refusal.{coordinate, coordinates}
+use Rattle.numbers.specs.Numbers.{coordinate}
+use Rattle.joint.specs.Refusal.{coordinates}
 
 pub coordinates-none : (l : List ℤ) → coordinates l 0 ≡ true
 unfolding coordinates

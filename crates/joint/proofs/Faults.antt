@@ -13,7 +13,8 @@ use Rattle.spacing.specs.Search.{firstFrom as searched, partner, firstPair}
 use Rattle.spacing.specs.Verdict.{fault, orElse, pairFault, endFault, edgeFault, verdictIn, memberVerdict, spacingVerdict}
 use Rattle.joint.specs.Layout.{valuesOf}
 use Rattle.joint.specs.Order.{tests, position}
-use Rattle.joint.specs.Refusal.{between, force, dowelWithin, positionsWithin, loadsWithin, membersWithin, fieldsWithin, coordinates, noForce, fault10, fault11, fault12, isFault, scriptTests, designerTests, drillTests, firstFrom, refusalNumber, drillFault, refusalOf, frame, alongs, acrosses, refusedBy, outcome, outcomeOf}
+use Rattle.numbers.specs.Numbers.{force}
+use Rattle.joint.specs.Refusal.{between, dowelWithin, positionsWithin, loadsWithin, membersWithin, fieldsWithin, coordinates, noForce, fault10, fault11, fault12, isFault, scriptTests, designerTests, drillTests, firstFrom, refusalNumber, drillFault, refusalOf, frame, alongs, acrosses, refusedBy, outcome, outcomeOf}
 use Rattle.joint.specs.declared.Dowel.{Dowel}
 use Rattle.joint.specs.declared.Loads.{Loads}
 use Rattle.joint.specs.declared.Positions.{Positions}

@@ -16,36 +16,8 @@ use borrow.Author.Tests.{le-leb, lt-leb}
 use Rattle.joint.specs.declared.Values.{Values}
 use Rattle.numbers.specs.Numbers.{twosComplement, i32At}
 use Rattle.joint.specs.Layout.{partOfPair, pairOfKind, outlineAt, memberAt, membersIn, dowelIn, column, positionsIn, loadsIn, valuesOf}
-use Rattle.joint.specs.Refusal.{
-  refusal1,
-  refusal2,
-  refusal3,
-  pairFrom,
-  refusal4,
-  oneIf,
-  once,
-  refusal5,
-  positionsLength,
-  refusal6,
-  coordinate,
-  force,
-  knownClass,
-  outlineWithin,
-  memberWithin,
-  membersWithin,
-  dowelWithin,
-  coordinates,
-  positionsWithin,
-  loadsWithin,
-  fieldsWithin,
-  outlineEmpty,
-  emptyOutlines,
-  noForce,
-  firstFrom,
-  refusalNumber,
-  drillFault,
-  refusalOf,
-}
+use Rattle.numbers.specs.Numbers.{coordinate, force}
+use Rattle.joint.specs.Refusal.{refusal1, refusal2, refusal3, pairFrom, refusal4, oneIf, once, refusal5, positionsLength, refusal6, knownClass, outlineWithin, memberWithin, membersWithin, dowelWithin, coordinates, positionsWithin, loadsWithin, fieldsWithin, outlineEmpty, emptyOutlines, noForce, firstFrom, refusalNumber, drillFault, refusalOf}
 use native.Mathlib.Nat.{lt-of-not-le, mul-le-mul-right, lt-of-mul-lt-mul-left, not-le-of-lt}
 use mathlib.Core.Logic.{⊎-elim}
 use lib.Dec.{lit<, lit≤}

@@ -4,10 +4,10 @@ use Prim.Native.Nat.{ℕ, zero, suc, _+_, _*_}
 use mathlib.Core.List.{List, [], _∷_, _++_}
 use mathlib.Core.Bool.{Bool, true, false, cond, not, _&&_, _||_}
 use lib.ListN.{length, getD, replicate}
-use lib.IntN.{ℤ, pos, negℤ, natAbs}
+use lib.IntN.{ℤ, pos, natAbs}
 use lib.Signed.{leZ}
 use lib.Dec.{ltb, leb, eqb}
-use Rattle.numbers.specs.Numbers.{u8At}
+use Rattle.numbers.specs.Numbers.{u8At, coordinate, force}
 use Rattle.joint.specs.Layout.{version, pairCount, pairOffset, pairLength, pairSum, kindOfPair, partOfKind, valuesOf}
 use Rattle.joint.specs.declared.Outline.{Outline}
 use Rattle.joint.specs.declared.Member.{Member}
@@ -75,16 +75,6 @@ refusal6 s =
 -- '7 a field outside its values or limits'
 abbrev pub between : ℕ → ℕ → ℕ → Bool
 between low high n = leb low n && leb n high
-
-abbrev pub betweenZ : ℤ → ℤ → ℤ → Bool
-betweenZ low high z = leZ low z && leZ z high
-
--- 'Coordinates run from -100,000 to 100,000, force components from -1,000,000 to 1,000,000.'
-unfoldable pub coordinate : ℤ → Bool
-coordinate z = betweenZ (negℤ (pos 100000)) (pos 100000) z
-
-unfoldable pub force : ℤ → Bool
-force z = betweenZ (negℤ (pos 1000000)) (pos 1000000) z
 
 -- the class codes of 'Strength of a shear plane'
 unfoldable pub knownClass : ℕ → Bool

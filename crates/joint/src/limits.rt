@@ -8,33 +8,17 @@ use crate::Outline;
 use crate::Positions;
 use crate::Stage;
 use crate::Values;
+use numbers::is_coordinate;
+use numbers::is_force;
 ghost use mathlib.Core.Path.{_≡_};
 ghost use Prim.Native.Nat.{_≤_};
-ghost use Rattle.joint.specs.Refusal.{between, betweenZ, coordinate, force, knownClass, outlineWithin, memberWithin, membersWithin, dowelWithin, coordinates, positionsWithin, loadsWithin, fieldsWithin, outlineEmpty, emptyOutlines, noForce, firstFrom};
+ghost use Rattle.joint.specs.Refusal.{between, knownClass, outlineWithin, memberWithin, membersWithin, dowelWithin, coordinates, positionsWithin, loadsWithin, fieldsWithin, outlineEmpty, emptyOutlines, noForce, firstFrom};
 ghost use Rattle.joint.specs.Stage.{stage, valueTests};
 
 fn is_between(low: u16, high: u16, n: u16) -> bool
     ensures { λ r. ⌜ r ≡ between low high n ⌝ }
 {
     (low <= n) & (n <= high)
-}
-
-fn is_within(low: i32, high: i32, z: i32) -> bool
-    ensures { λ r. ⌜ r ≡ betweenZ low high z ⌝ }
-{
-    (low <= z) & (z <= high)
-}
-
-fn is_coordinate(z: i32) -> bool
-    ensures { λ r. ⌜ r ≡ coordinate z ⌝ }
-{
-    is_within(-100000, 100000, z)
-}
-
-fn is_force(z: i32) -> bool
-    ensures { λ r. ⌜ r ≡ force z ⌝ }
-{
-    is_within(-1000000, 1000000, z)
 }
 
 fn is_known_class(code: u8) -> bool

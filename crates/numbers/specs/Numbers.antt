@@ -1,10 +1,11 @@
--- Numbers in bytes (01, 'The record'). A stretch of bytes is their list; bytes past its end read as 0.
+-- Numbers in bytes and the limits of the signed ones (01, 'The record'). A stretch of bytes is their list; bytes past its end read as 0.
 use Prim.Native.Nat.{ℕ, _+_, _*_}
 use mathlib.Core.List.{List}
-use mathlib.Core.Bool.{cond}
+use mathlib.Core.Bool.{Bool, cond, _&&_}
 use lib.ListN.{getD}
-use lib.IntN.{ℤ, pos, _-ℤ_}
+use lib.IntN.{ℤ, pos, negℤ, _-ℤ_}
 use lib.Dec.{ltb}
+use lib.Signed.{leZ}
 
 -- 'Numbers of more than one byte are little-endian; i32 is two's complement.'
 abbrev pub u8At : List ℕ → ℕ → ℕ
@@ -22,3 +23,13 @@ twosComplement n = cond (ltb n 2147483648) (pos n) (pos n -ℤ pos 4294967296)
 
 unfoldable pub i32At : List ℕ → ℕ → ℤ
 i32At s i = twosComplement (u32At s i)
+
+abbrev pub betweenZ : ℤ → ℤ → ℤ → Bool
+betweenZ low high z = leZ low z && leZ z high
+
+-- 'Coordinates run from -100,000 to 100,000, force components from -1,000,000 to 1,000,000.'
+unfoldable pub coordinate : ℤ → Bool
+coordinate z = betweenZ (negℤ (pos 100000)) (pos 100000) z
+
+unfoldable pub force : ℤ → Bool
+force z = betweenZ (negℤ (pos 1000000)) (pos 1000000) z

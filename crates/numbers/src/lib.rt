@@ -1,8 +1,8 @@
-// Numbers of a record, at their byte.
+// Numbers of a record: at their byte, and within their limits.
 ghost use mathlib.Core.Path.{_≡_};
 ghost use Prim.Native.Nat.{_+_, _≤_, _<_};
 ghost use lib.ListN.{length};
-ghost use Rattle.numbers.specs.Numbers.{u16At, twosComplement, i32At};
+ghost use Rattle.numbers.specs.Numbers.{u16At, twosComplement, i32At, betweenZ, coordinate, force};
 
 pub fn u16_at(s: &[u8], i: usize) -> u16
     requires { ⌜ i + 2 ≤ length (now s) ⌝ }
@@ -28,4 +28,22 @@ pub fn i32_at(s: &[u8], i: usize) -> i32
     let low = u16_at(s, i) as u32;
     let high = u16_at(s, i + 2) as u32;
     signed(low + high * 65536)
+}
+
+fn is_within(low: i32, high: i32, z: i32) -> bool
+    ensures { λ r. ⌜ r ≡ betweenZ low high z ⌝ }
+{
+    (low <= z) & (z <= high)
+}
+
+pub fn is_coordinate(z: i32) -> bool
+    ensures { λ r. ⌜ r ≡ coordinate z ⌝ }
+{
+    is_within(-100000, 100000, z)
+}
+
+pub fn is_force(z: i32) -> bool
+    ensures { λ r. ⌜ r ≡ force z ⌝ }
+{
+    is_within(-1000000, 1000000, z)
 }
