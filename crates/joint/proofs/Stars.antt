@@ -1,18 +1,16 @@
 -- The starred joints of 01 follow from the definitions: every report for which the top claim holds says what 01 prints.
 use Prim.Native.Nat.{ℕ, zero, suc, _+_, _*_, _≤_, _<_}
 use mathlib.Core.Path.{_≡_, refl, sym, ap, _∙_, subst, subst⁻¹, subst₂}
-use mathlib.Core.Bool.{Bool, true, false, cond}
 use mathlib.Core.List.{List, [], _∷_}
 use native.Mathlib.Omega.{arith}
 use lib.ListN.{set, replicate}
 use lib.IntN.{pos, negsuc}
 use Rattle.spacing.specs.declared.verdict.Fault.{Fault}
 use Rattle.spacing.specs.Verdict.{fault, pairFault, endFault, edgeFault, verdictIn, memberVerdict, spacingVerdict}
-use Rattle.spacing.specs.Spacing.{alongEnough, endPasses, pairPasses, frameOf}
+use Rattle.spacing.specs.Spacing.{alongEnough, endPasses}
 use Rattle.spacing.specs.Search.{firstFrom as firstIndex, partner, firstPair}
 use Rattle.joint.specs.declared.report.Report.{Report}
 use Rattle.joint.specs.declared.report.Verdict.the-variants.{Fits, Overloaded}
-use borrow.Author.Tests.{le-leb, lt-leb}
 use Rattle.joint.specs.declared.Values.{Values}
 use Rattle.numbers.specs.Numbers.{twosComplement, i32At}
 use Rattle.joint.specs.Layout.{partOfPair, pairOfKind, outlineAt, memberAt, membersIn, dowelIn, column, positionsIn, loadsIn, valuesOf}
@@ -33,7 +31,7 @@ use Rattle.joint.specs.declared.Positions.{Positions}
 use Rattle.joint.specs.declared.Outline.{Outline}
 use Rattle.joint.specs.Use.{planeOf, rowOf, spacingOf, Above0, planeForce, rowForce, NotAboveRow, EveryRow, SomeRow, Enough, CapacityBracket, ShareBracket, UseBracket}
 use Rattle.joint.specs.Workings.{Passed}
-use Rattle.joint.proofs.Claims.{plane, clear, passed}
+use Rattle.joint.proofs.Claims.{plane, clear, passed, fits, overloaded}
 use Rattle.joint.proofs.Meaning.{sound, no-refusal}
 use Rattle.joint.proofs.EnoughLaws.{RowBy, enough-up, enough-by}
 use Rattle.joint.specs.Claim.{Judged, Answered, Accepted}
@@ -157,10 +155,10 @@ module _ (bytes : List ℕ) (v : Values) (a : Accepted bytes) (e : valuesOf byte
   answered-as r j = subst (λ (w : Values). Answered w r) e (j .accepted a)
 
 fits-at : (v : Values) (r : Report) → Answered v r → r .usage ≤ 10000 → r .verdict ≡ Fits
-fits-at v r h l = h .verdict ∙ ap (λ (b : Bool). cond b Fits Overloaded) (le-leb (r .usage) 10000 l)
+fits-at v r h l = h .verdict ∙ sym (fits (r .usage) l)
 
 overloaded-at : (v : Values) (r : Report) → Answered v r → 10001 ≤ r .usage → r .verdict ≡ Overloaded
-overloaded-at v r h l = h .verdict ∙ ap (λ (b : Bool). cond b Fits Overloaded) (lt-leb (r .usage) 10000 l)
+overloaded-at v r h l = h .verdict ∙ sym (overloaded (r .usage) l)
 
 -- the effective number of 2 dowels 600 apart lies between these
 abbrev below2 : Fraction
@@ -482,12 +480,3 @@ stars = (
     ),
   ),
 )
-
--- '* Force (3,000, 4,000), d 12, grain x, across 0: along 504 passes the pair rule, 503 doesn't.'
-pub pair-504 : pairPasses (frameOf 2 (record { grain = 0; x0 = pos 0; y0 = pos 0; x1 = pos 0; y1 = pos 0 }) (pos 3000) (pos 4000)) 12 504 0 ≡ true
-unfolding alongEnough
-pair-504 = refl
-
-pub pair-503 : pairPasses (frameOf 2 (record { grain = 0; x0 = pos 0; y0 = pos 0; x1 = pos 0; y1 = pos 0 }) (pos 3000) (pos 4000)) 12 503 0 ≡ false
-unfolding alongEnough
-pair-503 = refl

@@ -1,6 +1,6 @@
 // Numbers of a record: at their byte, and within their limits.
 ghost use mathlib.Core.Path.{_≡_};
-ghost use Prim.Native.Nat.{_+_, _≤_, _<_};
+ghost use Prim.Native.Nat.{_+_, _≤_};
 ghost use lib.ListN.{length};
 ghost use Rattle.numbers.specs.Numbers.{u16At, twosComplement, i32At, betweenZ, coordinate, force};
 

@@ -1,4 +1,4 @@
-// 001's factors k1 of the classes of wood and k2 of the steels (below Tables 13-5 to 13-7) beside the tables of `strength`:
+// 001's factors k1 of the classes of wood and k2 of the steels (below Tables 13-5 to 13-7) beside the tables of `codes`:
 // k1 is the root of density/350, k2 that of fu/360.
 use codes::Listed;
 use strength::roots;
