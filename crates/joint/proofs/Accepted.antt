@@ -8,7 +8,7 @@ use native.Mathlib.Nat.{mul-le-mul, mul-pos}
 use borrow.Author.Tests.{leb-true, eqb-true, not-false}
 use lib.Dec.{leb, eqb}
 use lib.IntN.{natAbs}
-use Rattle.codes.specs.Tables.{densityOf, steelOf, kmodOf, listed}
+use Rattle.strength.specs.Tables.{densityOf, steelOf, kmodOf}
 use Rattle.strength.specs.Shear.{MemberWithin, PlaneWithin}
 use Rattle.spacing.specs.Spacing.{Components}
 use Rattle.joint.specs.declared.Member.{Member}
@@ -16,7 +16,7 @@ use Rattle.joint.specs.declared.Values.{Values}
 use Rattle.numbers.specs.Numbers.{force}
 use Rattle.joint.specs.Refusal.{between, knownClass, outlineWithin, coordinates, memberWithin, membersWithin, dowelWithin, positionsWithin, loadsWithin, fieldsWithin}
 use Rattle.joint.specs.Workings.{MemberHolds, FieldsHold, CheckWithin, twicePlanes}
-use Rattle.joint.specs.Use.{squaredForce, forceAlong, planeMember, planeOf, kmod}
+use Rattle.joint.specs.Use.{listed, squaredForce, forceAlong, planeMember, planeOf, kmod}
 use Rattle.joint.proofs.Tests.{first-of, second-of}
 
 -- ---- tests as inequalities

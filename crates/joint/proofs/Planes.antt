@@ -1,13 +1,13 @@
 -- The plane and the demand that the code puts together are the record's.
 use Prim.Native.Nat.{ℕ, _≤_}
 use mathlib.Core.Path.{_≡_, _∙_, ap₂, subst⁻¹}
-use Rattle.codes.specs.Tables.{steelOf, listed}
+use Rattle.strength.specs.Tables.{steelOf}
 use Rattle.strength.specs.Working.{capacityOf}
 use Rattle.strength.specs.declared.plane.Member as strengthMember
 use Rattle.strength.specs.declared.plane.Plane.{Plane}
 use Rattle.joint.specs.declared.Values.{Values}
 use Rattle.joint.specs.declared.demand.Demand.{Demand}
-use Rattle.joint.specs.Use.{squaredForce, forceAlong, planeOf}
+use Rattle.joint.specs.Use.{listed, squaredForce, forceAlong, planeOf}
 use Rattle.joint.specs.Workings.{memberIn, demandOf, shareIn, DemandWithin}
 
 pub plane-path : (v : Values) (total a₁ a₂ steel : ℕ) (side other : strengthMember.Member)

@@ -21,7 +21,7 @@ use mathlib.Core.Logic.{⊎-elim}
 use lib.Dec.{lit<, lit≤}
 use Rattle.strength.specs.Fraction.{Fraction, _over_, whole, _↑_, _≼_}
 use Rattle.strength.specs.Shear.{AtMostR, bearing}
-use Rattle.codes.specs.Tables.{densityOf, steelOf, kmodOf}
+use Rattle.strength.specs.Tables.{densityOf, steelOf, kmodOf}
 use Rattle.strength.proofs.Falling.{falls}
 use Rattle.group.specs.Rows.{NotAbove, NotBelow, shareOver, countTo, leastTo, rowNumber, rowDistance}
 use Rattle.group.specs.Rows.NotBelow.{several}

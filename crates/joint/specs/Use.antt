@@ -5,8 +5,10 @@ use mathlib.Core.Bool.{cond}
 use lib.Dec.{eqb}
 use lib.IntN.{natAbs}
 use Rattle.strength.specs.Fraction.{Fraction, _over_, whole, _⊕_, _⊗_, _⊘_, _↑_, _≼_, Proper}
-use Rattle.codes.specs.Tables.{densityOf, steelOf, kmodOf, k90Of, listed}
+use Rattle.strength.specs.Tables.{densityOf, steelOf, kmodOf, k90Of}
 use Rattle.strength.specs.Shear.{AtMostR, AboveR}
+use Rattle.strength.specs.declared.tables.Listed.{Listed}
+use Rattle.strength.specs.declared.tables.Listed.the-variants.{Value, Unlisted}
 use Rattle.strength.specs.declared.plane.Member as strengthMember
 use Rattle.strength.specs.declared.plane.Plane.{Plane}
 use Rattle.spacing.specs.Spacing.{along, across}
@@ -17,6 +19,11 @@ use Rattle.joint.specs.declared.Member.{Member}
 use Rattle.joint.specs.declared.Values.{Values}
 
 -- ---- Strength of a shear plane: the record's values in it
+-- what a table has at a code; every code of an accepted record is listed
+abbrev pub listed : Listed → ℕ
+listed (Value n) = n
+listed Unlisted = 0
+
 -- fx² + fy²
 abbrev pub squaredForce : Values → ℕ
 squaredForce v =

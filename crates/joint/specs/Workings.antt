@@ -2,7 +2,7 @@
 use Prim.Native.Nat.{ℕ, _+_, _*_, _-_, _/_, _%_, _≤_, max, min}
 use mathlib.Core.Path.{_≡_}
 use Rattle.strength.specs.Working.{squareRootOf, capacityOf}
-use Rattle.codes.specs.Tables.{densityOf, k90Of, listed}
+use Rattle.strength.specs.Tables.{densityOf, k90Of}
 use Rattle.strength.specs.declared.plane.Member as strengthMember
 use Rattle.group.specs.Share.{shareOf}
 use Rattle.group.specs.declared.share.Shares.{Shares}
@@ -21,7 +21,7 @@ use Rattle.spacing.specs.Verdict.{fault}
 use lib.Dec.{eqb}
 use Rattle.joint.specs.declared.demand.Demand.{Demand}
 use Rattle.joint.specs.declared.Values.{Values}
-use Rattle.joint.specs.Use.{squaredForce, forceAlong, kmod, planeOf}
+use Rattle.joint.specs.Use.{listed, squaredForce, forceAlong, kmod, planeOf}
 
 -- a/b rounded up
 unfoldable pub ceilingOf : ℕ → ℕ → ℕ

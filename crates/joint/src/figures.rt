@@ -7,13 +7,14 @@ use crate::demand::Demand;
 use crate::drill;
 use crate::report::Report;
 use crate::report::Verdict;
-use codes::listed_value;
 use group::share;
 use group::share::Shares;
 use spacing::limit;
 use spacing::signed;
 use strength::capacity;
 use strength::plane;
+use strength::tables;
+use strength::tables::Listed;
 ghost use mathlib.Core.Path.{_≡_};
 ghost use mathlib.Core.Bool.{cond};
 ghost use Prim.Native.Nat.{_+_, _*_, _≤_, min};
@@ -21,9 +22,18 @@ ghost use lib.Dec.{eqb};
 ghost use lib.IntN.{natAbs};
 ghost use Rattle.strength.specs.Working.{capacityOf};
 ghost use Rattle.spacing.specs.Spacing.{along};
-ghost use Rattle.joint.specs.Use.{kmod, planeOf};
+ghost use Rattle.joint.specs.Use.{listed, kmod, planeOf};
 ghost use Rattle.joint.specs.Claim.{verdictOf};
 ghost use Rattle.joint.specs.Workings.{Passed, memberIn, sharesIn, demandOf, answered};
+
+fn listed(entry: Listed) -> u64
+    ensures { λ r. ⌜ r ≡ listed entry ⌝ }
+{
+    match entry {
+        Listed::Value(n) => n,
+        Listed::Unlisted => 0,
+    }
+}
 
 // The size of the force's component along a member's grain.
 fn force_along(loads: Loads, m: Member) -> u64
@@ -49,8 +59,8 @@ fn plane_member(diameter: u8, m: Member, along: u64, total: u64) -> plane::Membe
     ensures { λ r. ⌜ r ≡ memberIn diameter m along total ⌝ }
 {
     plane::Member {
-        density: listed_value(codes::density(m.class)),
-        k90: codes::k90_softwood(diameter),
+        density: listed(tables::density(m.class)),
+        k90: tables::k90_softwood(diameter),
         along: along * along,
         total,
         thickness: m.thickness as u64,
@@ -70,7 +80,7 @@ fn capacity_of(v: Values) -> u64
     let total = squared_force(loads);
     let side = plane_member(dowel.diameter, member1, force_along(loads, member1), total);
     let other = plane_member(dowel.diameter, member2, force_along(loads, member2), total);
-    let steel = listed_value(codes::steel_strength(dowel.steel));
+    let steel = listed(tables::steel_strength(dowel.steel));
     capacity::capacity_thousandths(plane::Plane {
         side,
         other,
@@ -120,7 +130,7 @@ fn demand_of(v: Values, capacity: u64, share1: u64, share2: u64) -> Demand
         along1: force_along(loads, members.member1),
         along2: force_along(loads, members.member2),
         planes2: twice_planes(positions.n, members.planes),
-        kmod: listed_value(codes::kmod_hundredths(loads.service_class, loads.duration)),
+        kmod: listed(tables::kmod_hundredths(loads.service_class, loads.duration)),
         capacity,
         share1,
         share2,

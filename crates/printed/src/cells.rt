@@ -68,7 +68,7 @@ fn member(diameter: u8, along: u64, thickness: u64) -> Member
 {
     Member {
         density: DENSITY,
-        k90: codes::k90_softwood(diameter),
+        k90: strength::tables::k90_softwood(diameter),
         along,
         total: TOTAL,
         thickness,

@@ -1,7 +1,8 @@
-// 001's factors k1 of the classes of wood and k2 of the steels (below Tables 13-5 to 13-7) beside the tables of `codes`:
+// 001's factors k1 of the classes of wood and k2 of the steels (below Tables 13-5 to 13-7) beside the tables of `strength`:
 // k1 is the root of density/350, k2 that of fu/360.
-use codes::Listed;
 use strength::roots;
+use strength::tables;
+use strength::tables::Listed;
 ghost use Prim.Native.Nat.{_≤_, _<_};
 
 pub enum Factor {
@@ -47,8 +48,8 @@ fn listed(l: Listed) -> u64
 // 4,000,000 times density/350 or fu/360: the square of twice the factor in thousandths.
 fn square_of_twice(f: Factor, code: u8) -> u64 {
     match f {
-        Factor::Wood => 4000000 * listed(codes::density(code)) / 350,
-        Factor::Steel => 4000000 * listed(codes::steel_strength(code)) / 360,
+        Factor::Wood => 4000000 * listed(tables::density(code)) / 350,
+        Factor::Steel => 4000000 * listed(tables::steel_strength(code)) / 360,
     }
 }
 

@@ -83,7 +83,7 @@ fn all_factors(f: Factor, last: u8) -> Tally {
 fn example() {
     let m = Member {
         density: 425,
-        k90: codes::k90_softwood(16),
+        k90: strength::tables::k90_softwood(16),
         along: 1,
         total: 1,
         thickness: 800,

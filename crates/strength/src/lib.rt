@@ -3,4 +3,5 @@ pub mod capacity;
 pub mod moment;
 pub mod plane;
 pub mod roots;
+pub mod tables;
 mod terms;

@@ -4,7 +4,7 @@ use borrow.Author.Needs.{needs}
 use mathlib.Core.Path.{_∙_, ap, subst⁻¹}
 use Rattle.strength.specs.Shear.{PlaneWithin}
 use Rattle.strength.specs.Working.{capacityOf}
-use Rattle.codes.specs.Tables.{listed}
+use Rattle.joint.specs.Use.{listed}
 use Rattle.joint.proofs.Accepted.{along-small}
 use Rattle.joint.proofs.Claims.{plane}
 use Rattle.joint.proofs.Planes.{plane-path}
@@ -29,8 +29,8 @@ plane-member-requires-2 c κs = omega (arith, c .force-along2 .ensures, along-sm
 steel-strength-requires : tie.Need-steel-strength-requires
 steel-strength-requires c κs = search needs
 
-listed-value-requires : tie.Need-listed-value-requires
-listed-value-requires c κs = search needs
+listed-requires : tie.Need-listed-requires
+listed-requires c κs = search needs
 
 cast-t11 : tie.Need-cast-t11
 cast-t11 c = search needs
@@ -39,10 +39,10 @@ cast-t13 : tie.Need-cast-t13
 cast-t13 c = search needs
 
 capacity-thousandths-requires : tie.Need-capacity-thousandths-requires
-capacity-thousandths-requires c κs = subst⁻¹ PlaneWithin (plane-path (c .before .before .before .before .before .before .before .before .before .before .before .before .before .before .args .v) (c .before .before .before .before .before .before .before .before .squared-force .result) (c .before .before .before .before .before .before .before .force-along .result) (c .before .before .before .before .before .force-along2 .result) (c .before .before .listed-value .result) (c .before .before .before .before .before .before .plane-member .result) (c .before .before .before .before .plane-member2 .result) (c .before .before .before .before .before .before .before .before .squared-force .ensures) (c .before .before .before .before .before .before .before .force-along .ensures) (c .before .before .before .before .before .force-along2 .ensures) (c .before .before .before .before .before .before .plane-member .ensures) (c .before .before .before .before .plane-member2 .ensures) (c .before .before .listed-value .ensures ∙ ap listed (c .before .before .before .steel-strength .ensures))) (plane (c .before .before .before .before .before .before .before .before .before .before .before .before .before .before .args .v) (c .before .before .before .before .before .before .before .before .before .before .before .before .before .before .pre))
+capacity-thousandths-requires c κs = subst⁻¹ PlaneWithin (plane-path (c .before .before .before .before .before .before .before .before .before .before .before .before .before .before .args .v) (c .before .before .before .before .before .before .before .before .squared-force .result) (c .before .before .before .before .before .before .before .force-along .result) (c .before .before .before .before .before .force-along2 .result) (c .before .before .listed .result) (c .before .before .before .before .before .before .plane-member .result) (c .before .before .before .before .plane-member2 .result) (c .before .before .before .before .before .before .before .before .squared-force .ensures) (c .before .before .before .before .before .before .before .force-along .ensures) (c .before .before .before .before .before .force-along2 .ensures) (c .before .before .before .before .before .before .plane-member .ensures) (c .before .before .before .before .plane-member2 .ensures) (c .before .before .listed .ensures ∙ ap listed (c .before .before .before .steel-strength .ensures))) (plane (c .before .before .before .before .before .before .before .before .before .before .before .before .before .before .args .v) (c .before .before .before .before .before .before .before .before .before .before .before .before .before .before .pre))
 
 returns : tie.Need-returns
-returns c = c .capacity-thousandths .ensures .is ∙ ap capacityOf (plane-path (c .before .before .before .before .before .before .before .before .before .before .before .before .before .before .before .args .v) (c .before .before .before .before .before .before .before .before .before .squared-force .result) (c .before .before .before .before .before .before .before .before .force-along .result) (c .before .before .before .before .before .before .force-along2 .result) (c .before .before .before .listed-value .result) (c .before .before .before .before .before .before .before .plane-member .result) (c .before .before .before .before .before .plane-member2 .result) (c .before .before .before .before .before .before .before .before .before .squared-force .ensures) (c .before .before .before .before .before .before .before .before .force-along .ensures) (c .before .before .before .before .before .before .force-along2 .ensures) (c .before .before .before .before .before .before .before .plane-member .ensures) (c .before .before .before .before .before .plane-member2 .ensures) (c .before .before .before .listed-value .ensures ∙ ap listed (c .before .before .before .before .steel-strength .ensures)))
+returns c = c .capacity-thousandths .ensures .is ∙ ap capacityOf (plane-path (c .before .before .before .before .before .before .before .before .before .before .before .before .before .before .before .args .v) (c .before .before .before .before .before .before .before .before .before .squared-force .result) (c .before .before .before .before .before .before .before .before .force-along .result) (c .before .before .before .before .before .before .force-along2 .result) (c .before .before .before .listed .result) (c .before .before .before .before .before .before .before .plane-member .result) (c .before .before .before .before .before .plane-member2 .result) (c .before .before .before .before .before .before .before .before .before .squared-force .ensures) (c .before .before .before .before .before .before .before .before .force-along .ensures) (c .before .before .before .before .before .before .force-along2 .ensures) (c .before .before .before .before .before .before .before .plane-member .ensures) (c .before .before .before .before .before .plane-member2 .ensures) (c .before .before .before .listed .ensures ∙ ap listed (c .before .before .before .before .steel-strength .ensures)))
 
 pub capacity-of-spec : {M : Type 1} → statement M
 capacity-of-spec =
@@ -54,7 +54,7 @@ capacity-of-spec =
     force-along-requires-2
     plane-member-requires-2
     steel-strength-requires
-    listed-value-requires
+    listed-requires
     cast-t11
     cast-t13
     capacity-thousandths-requires

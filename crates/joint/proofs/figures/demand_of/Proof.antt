@@ -1,7 +1,7 @@
 -- `figures::demand_of` meets its contract.
 use borrow.Author.Needs.{needs}
 use mathlib.Core.Path.{_∙_, ap}
-use Rattle.codes.specs.Tables.{listed}
+use Rattle.joint.specs.Use.{listed}
 use Rattle.joint.proofs.figures.demand_of.Statement.{statement}
 use Rattle.joint.proofs.figures.demand_of.Tie as tie
 
@@ -20,11 +20,11 @@ twice-planes-requires c κs = search needs
 kmod-hundredths-requires : tie.Need-kmod-hundredths-requires
 kmod-hundredths-requires c κs = search needs
 
-listed-value-requires : tie.Need-listed-value-requires
-listed-value-requires c κs = search needs
+listed-requires : tie.Need-listed-requires
+listed-requires c κs = search needs
 
 returns : tie.Need-returns
-returns c = λ i. record { total = c .before .before .before .before .before .squared-force .ensures i; along1 = c .before .before .before .before .force-along .ensures i; along2 = c .before .before .before .force-along2 .ensures i; planes2 = c .before .before .twice-planes .ensures i; kmod = (c .listed-value .ensures ∙ ap listed (c .before .kmod-hundredths .ensures)) i; capacity = c .before .before .before .before .before .before .before .before .before .args .capacity; share1 = c .before .before .before .before .before .before .before .before .before .args .share1; share2 = c .before .before .before .before .before .before .before .before .before .args .share2 }
+returns c = λ i. record { total = c .before .before .before .before .before .squared-force .ensures i; along1 = c .before .before .before .before .force-along .ensures i; along2 = c .before .before .before .force-along2 .ensures i; planes2 = c .before .before .twice-planes .ensures i; kmod = (c .listed .ensures ∙ ap listed (c .before .kmod-hundredths .ensures)) i; capacity = c .before .before .before .before .before .before .before .before .before .args .capacity; share1 = c .before .before .before .before .before .before .before .before .before .args .share1; share2 = c .before .before .before .before .before .before .before .before .before .args .share2 }
 
 pub demand-of-spec : {M : Type 1} → statement M
 demand-of-spec =
@@ -35,5 +35,5 @@ demand-of-spec =
     force-along-requires-2
     twice-planes-requires
     kmod-hundredths-requires
-    listed-value-requires
+    listed-requires
     returns)

@@ -1,6 +1,6 @@
 // What a code of the record stands for: density of a class of wood, strength of a steel, kmod.
 ghost use mathlib.Core.Path.{_≡_};
-ghost use Rattle.codes.specs.Tables.{densityOf, steelOf, kmodOf, k90Of, listed};
+ghost use Rattle.strength.specs.Tables.{densityOf, steelOf, kmodOf, k90Of};
 
 // What a table has at a code.
 pub enum Listed {
@@ -67,14 +67,4 @@ pub fn k90_softwood(diameter: u8) -> u64
     ensures { λ r. ⌜ r ≡ k90Of diameter ⌝ }
 {
     1350 + 15 * (diameter as u64)
-}
-
-// What a table has at a code, 0 where it has nothing.
-pub fn listed_value(entry: Listed) -> u64
-    ensures { λ r. ⌜ r ≡ listed entry ⌝ }
-{
-    match entry {
-        Listed::Value(n) => n,
-        Listed::Unlisted => 0,
-    }
 }

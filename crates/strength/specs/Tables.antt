@@ -4,8 +4,8 @@ use Prim.Native.Nat.{ℕ, _+_, _*_}
 use mathlib.Core.Bool.{cond}
 use mathlib.Core.List.{List, [], _∷_}
 use lib.Dec.{eqb}
-use Rattle.codes.specs.declared.Listed.{Listed}
-use Rattle.codes.specs.declared.Listed.the-variants.{Value, Unlisted}
+use Rattle.strength.specs.declared.tables.Listed.{Listed}
+use Rattle.strength.specs.declared.tables.Listed.the-variants.{Value, Unlisted}
 
 -- a line of a table: a code, and what stands there
 pub record Line (A : Type 0) : Type 0 where
@@ -56,8 +56,3 @@ kmodOf =
 -- 01: k90 = 1.35 + 0.015 d in thousandths, d in mm; for every d, 000's k90 = 1 for thin dowels is not used
 abbrev pub k90Of : ℕ → ℕ
 k90Of d = 1350 + 15 * d
-
--- what stands there; the codes that a record may have are all listed
-abbrev pub listed : Listed → ℕ
-listed (Value n) = n
-listed Unlisted = 0

@@ -2,8 +2,8 @@
 -- Assumes nothing.
 use native.Mathlib.Omega.{arith}
 use borrow.Author.Needs.{needs}
-use Rattle.codes.proofs.k90_softwood.Statement.{statement}
-use Rattle.codes.proofs.k90_softwood.Tie as tie
+use Rattle.strength.proofs.tables.k90_softwood.Statement.{statement}
+use Rattle.strength.proofs.tables.k90_softwood.Tie as tie
 
 returns : tie.Need-returns
 returns c = omega arith

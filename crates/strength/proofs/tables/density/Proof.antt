@@ -2,9 +2,9 @@
 -- Assumes nothing.
 use mathlib.Core.Path.{ap, sym}
 use borrow.Author.Tests.{ne-eqb}
-use Rattle.codes.specs.Tables.{densityOf}
-use Rattle.codes.proofs.density.Statement.{statement}
-use Rattle.codes.proofs.density.Tie as tie
+use Rattle.strength.specs.Tables.{densityOf}
+use Rattle.strength.proofs.tables.density.Statement.{statement}
+use Rattle.strength.proofs.tables.density.Tie as tie
 
 pub density-spec : {M : Type 1} → statement M
 unfolding densityOf
