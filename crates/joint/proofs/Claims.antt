@@ -1,13 +1,12 @@
 -- The report that is made meets the top claim, for every sequence of bytes.
 use Prim.Native.Nat.{ℕ, _/_, _≤_, _<_, min}
 use mathlib.Core.Path.{_≡_, refl, sym, ap, _∙_, subst⁻¹}
-use mathlib.Core.Bool.{Bool, true, false, cond, not, false≢true}
+use mathlib.Core.Bool.{Bool, true, false, cond, not}
 use mathlib.Core.List.{List}
 use native.Mathlib.Omega.{arith}
 use native.Mathlib.Nat.{le-trans}
 use borrow.Author.Tests.{eq-eqb, ne-eqb, eqb-true, eqb-false, le-leb, lt-leb}
 use lib.Dec.{eqb, lit≤}
-use lib.ListN.{take}
 use Rattle.strength.specs.Shear.{PlaneWithin}
 use Rattle.strength.specs.Working.{capacityOf}
 use Rattle.strength.proofs.Capacities.{capacity-low, capacity-high, newtons-low, newtons-high}
@@ -29,8 +28,8 @@ use Rattle.joint.specs.declared.Outcome.{Outcome}
 use Rattle.joint.specs.Layout.{valuesOf}
 use Rattle.joint.specs.Refusal.{refusalOf, refusalNumber, drillFault, spaced, fieldsWithin, noForce, outcomeOf, outcome, zeroValues}
 use Rattle.joint.specs.Use.{planeOf, EveryRow, SomeRow, ShareBracket, CapacityBracket, UseBracket, forceAlong}
-use Rattle.joint.specs.Claim.{Accepted, Answered, Judged, InputJudged, verdictOf}
-use Rattle.joint.specs.Workings.{shareIn, useIn, answered, unanswered, reportOf, inputReport, RowWithin, Passed}
+use Rattle.joint.specs.Claim.{Accepted, Answered, Judged, verdictOf}
+use Rattle.joint.specs.Workings.{shareIn, useIn, answered, unanswered, reportOf, RowWithin, Passed}
 use Rattle.joint.proofs.Order.{unnumbered}
 use Rattle.joint.proofs.Faults.{given, outcome-accepted}
 use Rattle.joint.proofs.Accepted.{fields-hold, plane-within, total-some, total-small, along-small, check-within}
@@ -218,28 +217,3 @@ report-refused s o e h =
     (λ i. record { verdict = Refused; number = e i .number; member = e i .member; first = e i .first; second = e i .second; usage = 0; capacity = 0; share = 0 })
     ∙ ap (λ (b : Bool). cond b (answered (valuesOf s)) (unanswered (refusalOf s)))
     (sym (ne-eqb (refusalOf s .number) 0 (λ k. h (ap (λ (r : Outcome). r .number) e ∙ k))))
-
--- the program's rule
-abbrev pub tooLong : Report
-tooLong = record { verdict = Refused; number = 4; member = 0; first = 0; second = 0; usage = 0; capacity = 0; share = 0 }
-
-pub input-judged : (buffer : List ℕ) (count : ℕ) (more : Bool) (r : Report) → more ≡ false → r ≡ reportOf (take count buffer)
-    → InputJudged buffer count more r × (r ≡ inputReport buffer count more)
-unfolding inputReport
-input-judged buffer count true r m e = absurd (false≢true (sym m))
-input-judged buffer count false r m e = judged e
-
-pub input-long : (buffer : List ℕ) (count : ℕ) (more : Bool) → more ≡ true
-    → InputJudged buffer count more tooLong × (tooLong ≡ inputReport buffer count more)
-unfolding inputReport unanswered
-input-long buffer count false m = absurd (false≢true m)
-input-long buffer count true m = (
-  record {
-    number = refl;
-    member = refl;
-    first = refl;
-    second = refl;
-    figures = record { capacity = refl; share = refl; usage = refl; verdict = refl };
-  },
-  refl,
-)

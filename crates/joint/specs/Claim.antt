@@ -1,10 +1,9 @@
 -- The top claim: what a report says of the bytes handed in (01, 'Rows, share and use', last paragraph; demands 1, 2 and 3).
 use Prim.Native.Nat.{ℕ}
 use mathlib.Core.Path.{_≡_}
-use mathlib.Core.Bool.{Bool, true, false, cond}
+use mathlib.Core.Bool.{cond}
 use mathlib.Core.List.{List}
 use lib.Dec.{leb}
-use lib.ListN.{take}
 use Rattle.joint.specs.declared.Values.{Values}
 use Rattle.joint.specs.declared.report.Verdict.{Verdict}
 use Rattle.joint.specs.declared.report.Verdict.the-variants.{Fits, Overloaded, Refused}
@@ -43,16 +42,3 @@ pub record Judged (bytes : List ℕ) (r : Report) : Type 0 where
   pub second : r .second ≡ refusalOf bytes .second
   pub refused : (Accepted bytes → ⊥) → Unanswered r
   pub accepted : Accepted bytes → Answered (valuesOf bytes) r
-
--- 'The program reads standard input up to 4,096 bytes (more prints as refusal 4, before any other test)': what is said of the first
--- `count` bytes of a buffer, and whether more came
-pub record TooLong (r : Report) : Type 0 where
-  pub number : r .number ≡ 4
-  pub member : r .member ≡ 0
-  pub first : r .first ≡ 0
-  pub second : r .second ≡ 0
-  pub figures : Unanswered r
-
-abbrev pub InputJudged : List ℕ → ℕ → Bool → Report → Type 0
-InputJudged buffer count true r = TooLong r
-InputJudged buffer count false r = Judged (take count buffer) r

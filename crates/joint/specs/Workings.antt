@@ -15,9 +15,7 @@ use Rattle.joint.specs.Layout.{valuesOf}
 use Rattle.joint.specs.Refusal.{refusalOf, drillFault, spaced}
 use Rattle.joint.specs.Claim.{verdictOf}
 use mathlib.Core.List.{List}
-use mathlib.Core.Bool.{Bool, cond}
-use lib.ListN.{take}
-use Rattle.spacing.specs.Verdict.{fault}
+use mathlib.Core.Bool.{cond}
 use lib.Dec.{eqb}
 use Rattle.joint.specs.declared.demand.Demand.{Demand}
 use Rattle.joint.specs.declared.Values.{Values}
@@ -158,7 +156,3 @@ memberIn d m along total = record {
   total = total;
   thickness = m .thickness;
 }
-
--- the program's rule
-unfoldable pub inputReport : List ℕ → ℕ → Bool → Report
-inputReport buffer count more = cond more (unanswered (fault 4 0 0 0)) (reportOf (take count buffer))
