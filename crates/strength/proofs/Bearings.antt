@@ -1,5 +1,4 @@
 -- Within the ranges no denominator of the formulas is 0, and each fraction of 01 is a ratio of the whole numbers worked with.
--- Assumes nothing.
 use Prim.Native.Nat.{ℕ, _+_, _*_, _-_, _≤_, _<_}
 use native.Mathlib.Nat.{mul-pos, mul-le-mul-right}
 use native.Mathlib.Omega.{arith}

@@ -1,5 +1,4 @@
 -- The capacity by definition brackets R: c ≤ 1000 R < c + 2, and its newtons C ≤ R < C + 2.
--- Assumes nothing.
 use Prim.Native.Nat.{ℕ, _+_, _*_, _-_, _/_, _^_, _≤_, _<_, min}
 use native.Mathlib.Nat.{mul-pos, mul-le-mul, mul-le-mul-left, mul-le-mul-right, le-trans, lt-of-le-of-lt, lt-of-lt-of-le, lt-of-not-le, lt-irrefl, le-min, min-le-left, min-le-right, mul-div-le, lt-mul-div-succ, lt-div-mul-add, div-mul-le-self, div-le-of-le-mul, le-of-lt, one-le-pow, mul-one, le-add-left, le-add-right}
 use native.Mathlib.Omega.{arith}

@@ -1,5 +1,4 @@
 -- Each test of 01 is monotone: what is at most R stays so when it gets smaller. 0 is at most R.
--- Assumes nothing.
 use Prim.Native.Nat.{ℕ, _+_, _*_, _≤_}
 use native.Mathlib.Nat.{mul-pos, mul-le-mul-right, add-sub-of-le}
 use native.Mathlib.Omega.{arith}

@@ -1,5 +1,4 @@
 -- The capacity by definition is at least 1,000 thousandths of a newton: what a use needs of it from below.
--- Assumes nothing.
 use Prim.Native.Nat.{ℕ, _+_, _*_, _/_, _≤_, _<_}
 use native.Mathlib.Nat.{mul-pos, mul-le-mul, mul-le-mul-left, mul-le-mul-right, lt-of-le-of-lt, lt-of-mul-lt-mul-right, le-trans, le-of-suc-le-suc, le-div-iff-mul-le, le-min, le-add-left, le-add-right}
 use native.Mathlib.Omega.{arith}

@@ -1,5 +1,4 @@
 -- What the bearings of both members, in limbs, meet of what the terms ask, and that the terms are those of the definition.
--- Assumes nothing.
 use Prim.Native.Nat.{ℕ, _*_, _≤_, min}
 use native.Mathlib.Nat.{mul-le-mul, le-add-left, le-add-right}
 use mathlib.Core.Path.{_≡_, _∙_, ap₂}
@@ -11,7 +10,7 @@ use Rattle.strength.specs.declared.plane.Plane.{Plane}
 use Rattle.strength.specs.declared.terms.Joined.{Joined}
 use mathlib.Core.Bool.{cond}
 use Rattle.strength.specs.Shear.{MemberWithin, PlaneWithin}
-use Rattle.strength.specs.Leaves.{JoinedOf, Part, FirstWithin, ForceWithin}
+use Rattle.strength.specs.Leaves.{JoinedOf, Part, Parted, FirstWithin, ForceWithin}
 use Rattle.strength.specs.Working.{bearingNum, bearingDen, crossed, dowelFactor, yieldMomentOf, firstOf, shareRootOf, wedgeOf, halfOf, secondOf, thirdOf, capacityOf}
 use Rattle.strength.proofs.Sizes.{
   num-bits,
@@ -51,35 +50,32 @@ module _ {p : Plane} (w : PlaneWithin p) {j : Joined} (h : JoinedOf (p .side) (p
     bound = product-bound p w;
   })
 
-  pub part-1 : Part (value (j .cross1)) (value (j .whole))
-  part-1 = rw (h .cross1, h .whole) (record {
-    below = le-add-right (crossed (p .side) (p .other)) (crossed (p .other) (p .side));
-    positive = sum-positive p w;
-    bits = sum-high p w;
-  })
-
-  pub part-2 : Part (value (j .cross2)) (value (j .whole))
-  part-2 = rw (h .cross2, h .whole) (record {
-    below = le-add-left (crossed (p .other) (p .side)) (crossed (p .side) (p .other));
-    positive = sum-positive p w;
-    bits = sum-high p w;
-  })
+  pub parted : Parted j
+  parted = record {
+    s = rw (h .cross2, h .whole) (record {
+      below = le-add-left (crossed (p .other) (p .side)) (crossed (p .side) (p .other));
+      positive = sum-positive p w;
+      bits = sum-high p w;
+    });
+    c = rw (h .cross1, h .whole) (record {
+      below = le-add-right (crossed (p .side) (p .other)) (crossed (p .other) (p .side));
+      positive = sum-positive p w;
+      bits = sum-high p w;
+    });
+  }
 
   pub side-force : ForceWithin (dowelFactor (p .diameter) * p .side .thickness) (value (j .num1)) (value (j .den1))
-  side-force = force-within p w (p .side) (w .side) (value (j .num1)) (value (j .den1)) (h .num1) (h .den1)
+  side-force = force-within p w (p .side) (w .side) (value (j .num1)) (value (j .den1)) (h .first-num) (h .first-den)
 
   pub other-force : ForceWithin (dowelFactor (p .diameter) * p .other .thickness) (value (j .num2)) (value (j .den2))
-  other-force = force-within p w (p .other) (w .other) (value (j .num2)) (value (j .den2)) (h .num2) (h .den2)
-
-  pub root-fits : {r : ℕ} → r ≡ shareRootOf (value (j .cross2)) (value (j .whole)) → r ≤ 1073741824
-  root-fits e = rw e (share-bound (value (j .cross2)) (value (j .whole)) (part-2 .below) (part-2 .positive))
+  other-force = force-within p w (p .other) (w .other) (value (j .num2)) (value (j .den2)) (h .second-num) (h .second-den)
 
   -- the terms are those of the definition
-  pub gathered : (a b c m r x : ℕ)
+  pub gathered : (m a b c x : ℕ)
       → m ≡ yieldMomentOf (p .diameter) (p .steel)
       → a ≡ firstOf (dowelFactor (p .diameter)) m (value (j .nums)) (value (j .whole))
-      → r ≡ shareRootOf (value (j .cross2)) (value (j .whole))
-      → b ≡ wedgeOf (dowelFactor (p .diameter) * p .side .thickness * value (j .num1)) (value (j .den1)) r
+      → b ≡ wedgeOf (dowelFactor (p .diameter) * p .side .thickness * value (j .num1)) (value (j .den1))
+      (shareRootOf (value (j .cross2)) (value (j .whole)))
       → c ≡ cond (eqb (p .planes) 1)
       (wedgeOf (dowelFactor (p .diameter) * p .other .thickness * value (j .num2)) (value (j .den2))
       (shareRootOf (value (j .cross1)) (value (j .whole))))
@@ -87,8 +83,12 @@ module _ {p : Plane} (w : PlaneWithin p) {j : Joined} (h : JoinedOf (p .side) (p
       → x ≡ min (min a b) c
       → x ≡ capacityOf p
   unfolding capacityOf secondOf thirdOf
-  gathered a b c m r x em ea er eb ec ex =
+  gathered m a b c x em ea eb ec ex =
       ex
       ∙ ap₂ min
-      (ap₂ min (ea ∙ rw (em, h .nums, h .whole)) (eb ∙ rw (er, h .num1, h .den1, h .cross2, h .whole)))
-      (ec ∙ rw (h .num2, h .den2, h .cross1, h .whole))
+      (ap₂ min (ea ∙ rw (em, h .nums, h .whole)) (eb ∙ rw (h .first-num, h .first-den, h .cross2, h .whole)))
+      (ec ∙ rw (h .second-num, h .second-den, h .cross1, h .whole))
+
+-- the root of a part of a whole is at most 2^30
+pub root-fits : {part whole r : ℕ} → Part part whole → r ≡ shareRootOf part whole → r ≤ 1073741824
+root-fits {part} {whole} h e = rw e (share-bound part whole (h .below) (h .positive))

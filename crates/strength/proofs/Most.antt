@@ -1,5 +1,4 @@
 -- R is at most 12,000,000 N for every plane within the ranges: crude, and what the use needs from above.
--- Assumes nothing.
 use Prim.Native.Nat.{ℕ, _*_, _-_, _≤_}
 use native.Mathlib.Nat.{mul-le-mul, mul-le-mul-right, add-sub-of-le, le-of-mul-le-mul-right}
 use native.Mathlib.Omega.{arith}

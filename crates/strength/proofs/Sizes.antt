@@ -1,5 +1,4 @@
 -- What the ranges make of the numbers worked with: none is 0, none is too large or too small.
--- Assumes nothing.
 use Prim.Native.Nat.{ℕ, _+_, _*_, _-_, _^_, _≤_, _<_}
 use native.Mathlib.Nat.{
   mul-pos,
@@ -21,11 +20,26 @@ use lib.Pow.{pow-add}
 use Rattle.strength.specs.declared.plane.Member.{Member}
 use Rattle.strength.specs.declared.plane.Plane.{Plane}
 use Rattle.strength.specs.Roots.{FifthRoot}
+use Rattle.strength.specs.Leaves.{BearingWithin}
 use Rattle.strength.specs.Shear.{MemberWithin, PlaneWithin}
 use Rattle.strength.specs.Working.{bearingNum, bearingDen, crossSum, dowelFactor, forceOf, yieldToTheFifth, yieldMomentOf}
 use Rattle.wide.proofs.Bits.{product-bits, sum-bits}
 use Rattle.wide.proofs.Powers.{mul-pow, pow-lt-back}
 use Rattle.strength.proofs.Greatest.{fifth-root-of}
+
+-- numerator and denominator of a bearing fit 73 bits
+module _ {density k90 along total : ℕ} (w : BearingWithin density k90 along total) where
+  pub num-short : density * total < 2 ^ 73
+  num-short = product-bits 11 62 (omega (arith, w .density-high)) (w .force-high)
+
+  pub den-most : k90 * (total - along) + 1000 * along ≤ 1800 * total
+  den-most = go (total - along) (omega (arith, w .angle))
+    where
+      go : (b : ℕ) → along + b ≡ total → k90 * b + 1000 * along ≤ 1800 * total
+      go b e = omega (arith, mul-le-mul-right b (w .k90-high))
+
+  pub den-short : k90 * (total - along) + 1000 * along < 2 ^ 73
+  den-short = lt-of-le-of-lt den-most (product-bits 11 62 (lit< tt) (w .force-high))
 
 -- the ranges make the bearings' ratios: 9 n ≤ 10 D
 module _ (m : Member) (w : MemberWithin m) where
@@ -48,17 +62,22 @@ module _ (m : Member) (w : MemberWithin m) where
   pub ratio-bound : 9 * bearingNum m ≤ 10 * bearingDen m
   ratio-bound = omega (arith, mul-le-mul-right (m .total) (w .density-high), den-low)
 
+  within : BearingWithin (m .density) (m .k90) (m .along) (m .total)
+  within = record {
+    density-high = w .density-high;
+    k90-high = w .k90-high;
+    angle = w .angle;
+    force-high = w .force-high;
+  }
+
   pub num-bits : bearingNum m < 2 ^ 73
-  num-bits = product-bits 11 62 (omega (arith, w .density-high)) (w .force-high)
+  num-bits = num-short within
 
   pub den-high : bearingDen m ≤ 1800 * m .total
-  den-high = go (m .total - m .along) split
-    where
-      go : (b : ℕ) → m .along + b ≡ m .total → m .k90 * b + 1000 * m .along ≤ 1800 * m .total
-      go b e = omega (arith, mul-le-mul-right b (w .k90-high))
+  den-high = den-most within
 
   pub den-bits : bearingDen m < 2 ^ 73
-  den-bits = lt-of-le-of-lt den-high (product-bits 11 62 (lit< tt) (w .force-high))
+  den-bits = den-short within
 
 -- the dowel's factor
 pub factor-bound : (d : ℕ) → 6 ≤ d → d ≤ 30 → dowelFactor d ≤ 231240

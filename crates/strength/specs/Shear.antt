@@ -1,5 +1,4 @@
 -- 01, 'Strength of a shear plane': the formulas as printed there, over plain values, and what it is to be at most R.
--- Assumes nothing.
 use Prim.Native.Nat.{ℕ, _-_, _^_, _≤_, _<_}
 use mathlib.Core.Bool.{Bool, true, false}
 use lib.Dec.{eqb}

@@ -1,6 +1,5 @@
 -- Nobody needs to believe this: the brackets are the claim. It says which figure within its bracket each routine returns, in
 -- the shape of the algorithm, so that equal values give equal figures.
--- Assumes nothing.
 use Prim.Native.Nat.{ℕ, zero, suc, _+_, _*_, _-_, _/_, _^_, min}
 use mathlib.Core.Bool.{Bool, cond}
 use lib.Dec.{leb, eqb}
