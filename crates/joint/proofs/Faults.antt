@@ -14,15 +14,19 @@ use Rattle.spacing.specs.Verdict.{fault, orElse, pairFault, endFault, edgeFault
 use Rattle.joint.specs.Layout.{valuesOf}
 use Rattle.joint.specs.Order.{tests, position}
 use Rattle.numbers.specs.Numbers.{force}
-use Rattle.joint.specs.Refusal.{between, dowelWithin, positionsWithin, loadsWithin, membersWithin, fieldsWithin, coordinates, noForce, fault10, fault11, fault12, isFault, scriptTests, designerTests, drillTests, firstFrom, refusalNumber, drillFault, refusalOf, frame, alongs, acrosses, refusedBy, outcome, outcomeOf}
+use Rattle.joint.specs.Refusal.{between, dowelWithin, positionsWithin, loadsWithin, membersWithin, fieldsWithin, coordinates, noForce, fault10, fault11, fault12, isFault, scriptTests, designerTests, drillTests, firstHolding, refusalNumber, drillFault, refusalOf, frame, alongs, acrosses, refusedBy, outcome, outcomeOf}
 use Rattle.joint.specs.declared.Dowel.{Dowel}
 use Rattle.joint.specs.declared.Loads.{Loads}
 use Rattle.joint.specs.declared.Positions.{Positions}
 use Rattle.joint.specs.declared.Values.{Values}
-use Rattle.joint.specs.Stage.{stage, stageNumber}
+use Rattle.joint.specs.Stage.{partsOf, layout, layoutNumber, stage, stageNumber, valueTests}
 use Rattle.joint.specs.declared.Stage.{Stage}
-use Rattle.joint.specs.declared.Stage.the-variants.{Refused}
-use Rattle.joint.proofs.Stages.{first-zero, first-kept, stage-refused}
+use Rattle.joint.specs.declared.Stage.the-variants.{Passed, Refused}
+use Rattle.joint.specs.declared.layout.Parts.{Parts}
+use Rattle.joint.specs.declared.layout.Layout.{Layout}
+use Rattle.joint.specs.declared.layout.Layout.the-variants.{Laid, Refused as LayoutRefused}
+use Rattle.joint.proofs.Holding.{none-holds, first-zero, first-kept}
+use Rattle.joint.proofs.Stages.{layout-number, laid-number, layout-refused, stage-number, stage-passed, stage-refused}
 use Rattle.joint.proofs.Tests.{first-of, second-of}
 
 -- ---- what 7 and 9 leave
@@ -86,6 +90,10 @@ given v h g =
       most = most (v .positions) (second-of (m && w) _ (first-of (m && w && p) _ all));
     }
 
+pub drill-given : {r : Stage} (v : Values) → r ≡ stage (firstHolding 7 (valueTests v)) → r ≡ Passed
+    → Given (v .dowel .diameter) (v .loads .fx) (v .loads .fy) (v .positions .n)
+drill-given v e h = let n = none-holds 6 (valueTests v) (stage-passed _ e h) in given v (n .none 0) (n .none 2)
+
 -- ---- faults in a row
 chain : List Fault → Fault
 chain [] = fault 0 0 0 0
@@ -96,12 +104,12 @@ Placed : ℕ → List Fault → Type 0
 Placed k [] = Unit
 Placed k (f ∷ fs) = (isFault f ≡ true → position f ≡ k) × Placed (suc k) fs
 
-chain-position : (k : ℕ) (fs : List Fault) → Placed (suc k) fs → position (chain fs) ≡ firstFrom (suc k) (map isFault fs)
-unfolding chain Placed firstFrom
+chain-position : (k : ℕ) (fs : List Fault) → Placed (suc k) fs → position (chain fs) ≡ firstHolding (suc k) (map isFault fs)
+unfolding chain Placed firstHolding
 chain-position k [] p = refl
 chain-position k (f ∷ fs) p = of (eqb (f .number) 0) refl (chain-position (suc k) fs (p .1)) (p .0)
   where
-    of : (b : Bool) → eqb (f .number) 0 ≡ b → position (chain fs) ≡ firstFrom (suc (suc k)) (map isFault fs) → (isFault f ≡ true → position f ≡ suc k) → position (chain (f ∷ fs)) ≡ firstFrom (suc k) (map isFault (f ∷ fs))
+    of : (b : Bool) → eqb (f .number) 0 ≡ b → position (chain fs) ≡ firstHolding (suc (suc k)) (map isFault fs) → (isFault f ≡ true → position f ≡ suc k) → position (chain (f ∷ fs)) ≡ firstHolding (suc k) (map isFault (f ∷ fs))
     of true e ih q = simp e ih
     of false e ih q = simp e (q (simp e))
 
@@ -200,7 +208,7 @@ drill-placed v = (
   ),
 )
 
-drill-position : (s : List ℕ) → position (drillFault (valuesOf s)) ≡ firstFrom 10 (drillTests s)
+drill-position : (s : List ℕ) → position (drillFault (valuesOf s)) ≡ firstHolding 10 (drillTests s)
 unfolding drill-faults
 drill-position s =
     ap position (drill-chain (valuesOf s)) ∙ chain-position 9 (drill-faults (valuesOf s)) (drill-placed (valuesOf s))
@@ -210,11 +218,11 @@ unfolding Clean
 drill-none v h = drill-chain v ∙ chain-clean (drill-faults v) (rw drill-chain at h)
 
 -- ---- the whole order
-pub position-first : (s : List ℕ) → position (refusalOf s) ≡ firstFrom 1 (tests s)
+pub position-first : (s : List ℕ) → position (refusalOf s) ≡ firstHolding 1 (tests s)
 unfolding refusalOf refusalNumber
 position-first s = of (eqb (refusalNumber s) 0) refl
   where
-    of : (b : Bool) → eqb (refusalNumber s) 0 ≡ b → position (refusalOf s) ≡ firstFrom 1 (tests s)
+    of : (b : Bool) → eqb (refusalNumber s) 0 ≡ b → position (refusalOf s) ≡ firstHolding 1 (tests s)
     of true e =
         simp e
         (drill-position s
@@ -224,17 +232,42 @@ position-first s = of (eqb (refusalNumber s) 0) refl
         simp e
         (sym (first-kept 0 (scriptTests s ++ designerTests s) (drillTests s) (eqb-false _ _ e)))
 
--- ---- the outcome
-pub outcome-numbered : (s : List ℕ) {r : Stage} {n : ℕ} (m : ℕ) → r ≡ stage (refusalNumber s) → r ≡ Refused m → n ≡ stageNumber r → refusedBy (fault n 0 0 0) ≡ outcomeOf s
-unfolding outcomeOf outcome refusalOf
-outcome-numbered s m e h q =
-    let g = stage-refused (refusalNumber s) m e h in
-    simp (q ∙ g .0, ne-eqb (refusalNumber s) 0 (g .1))
-
-pub outcome-fault : (s : List ℕ) (f : Fault) → f ≡ drillFault (valuesOf s) → refusalNumber s ≡ 0 → (f .number ≡ 0 → ⊥) → refusedBy f ≡ outcomeOf s
-unfolding outcomeOf outcome refusalOf
-outcome-fault s f e h g = simp (h, ← e, ne-eqb (f .number) 0 g)
-
-pub outcome-accepted : (s : List ℕ) (f : Fault) → f ≡ drillFault (valuesOf s) → refusalNumber s ≡ 0 → f .number ≡ 0 → record { number = 0; member = 0; first = 0; second = 0; values = valuesOf s } ≡ outcomeOf s
+pub outcome-accepted : (s : List ℕ) (f : Fault) → f ≡ drillFault (valuesOf s) → refusalNumber s ≡ 0 → f .number ≡ 0
+    → record { number = 0; member = 0; first = 0; second = 0; values = valuesOf s } ≡ outcomeOf s
 unfolding outcomeOf outcome refusalOf
 outcome-accepted s f e h g = simp (h, drill-none (valuesOf s) (ap (λ (z : Fault). z .number) (sym e) ∙ g))
+
+-- ---- the outcome, by what the stages answered
+numbered : (s : List ℕ) {n : ℕ} → n ≡ refusalNumber s → (n ≡ 0 → ⊥) → refusedBy (fault n 0 0 0) ≡ outcomeOf s
+unfolding outcomeOf outcome refusalOf
+numbered s {n} e h = simp (← e, ne-eqb n 0 h)
+
+module _ (s : List ℕ) {l : Layout} (e : l ≡ layout (firstHolding 1 (scriptTests s)) (partsOf s)) where
+  pub refused-layout : {m n : ℕ} → l ≡ LayoutRefused m → n ≡ layoutNumber l → refusedBy (fault n 0 0 0) ≡ outcomeOf s
+  unfolding refusalNumber
+  refused-layout h q =
+      let f = layout-refused _ _ e h in
+      let k = q ∙ layout-number _ _ e in
+      numbered s (k ∙ sym (first-kept 0 (scriptTests s) (designerTests s) f)) (λ z. f (sym k ∙ z))
+
+  module _ {p : Parts} (h : l ≡ Laid p) {v : Values} (w : v ≡ valuesOf s) {r : Stage} (g : r ≡ stage (firstHolding 7 (valueTests v))) where
+    number-is : refusalNumber s ≡ firstHolding 7 (valueTests v)
+    unfolding refusalNumber
+    number-is = rw w (first-zero 0 7 (scriptTests s) (designerTests s) (laid-number _ _ e h) refl)
+
+    pub refused-values : {m n : ℕ} → r ≡ Refused m → n ≡ stageNumber r → refusedBy (fault n 0 0 0) ≡ outcomeOf s
+    refused-values k q =
+        let f = stage-refused _ g k in
+        let o = q ∙ stage-number _ g in
+        numbered s (o ∙ sym number-is) (λ z. f (sym o ∙ z))
+
+    module _ (k : r ≡ Passed) {f : Fault} (d : f ≡ drillFault v) where
+      none-numbered : refusalNumber s ≡ 0
+      none-numbered = number-is ∙ stage-passed _ g k
+
+      pub refused-drill : (f .number ≡ 0 → ⊥) → refusedBy f ≡ outcomeOf s
+      unfolding outcomeOf outcome refusalOf
+      refused-drill n = simp (none-numbered, ← w, ← d, ne-eqb (f .number) 0 n)
+
+      pub accepted : f .number ≡ 0 → record { number = 0; member = 0; first = 0; second = 0; values = v } ≡ outcomeOf s
+      accepted n = rw w (outcome-accepted s f (rw w at d) none-numbered n)

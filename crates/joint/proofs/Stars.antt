@@ -13,9 +13,10 @@ use Rattle.joint.specs.declared.report.Report.{Report}
 use Rattle.joint.specs.declared.report.Verdict.the-variants.{Fits, Overloaded}
 use Rattle.joint.specs.declared.Values.{Values}
 use Rattle.numbers.specs.Numbers.{twosComplement, i32At}
+use Rattle.chain.specs.Chain.{numberAt, bound, allFollow, chained}
 use Rattle.joint.specs.Layout.{partOfPair, pairOfKind, outlineAt, memberAt, membersIn, dowelIn, column, positionsIn, loadsIn, valuesOf}
 use Rattle.numbers.specs.Numbers.{coordinate, force}
-use Rattle.joint.specs.Refusal.{refusal1, refusal2, refusal3, pairFrom, refusal4, oneIf, once, refusal5, positionsLength, refusal6, knownClass, outlineWithin, memberWithin, membersWithin, dowelWithin, coordinates, positionsWithin, loadsWithin, fieldsWithin, outlineEmpty, emptyOutlines, noForce, firstFrom, refusalNumber, drillFault, refusalOf}
+use Rattle.joint.specs.Refusal.{refusal1, refusal2, refusal3, refusal4, oneIf, once, refusal5, positionsLength, refusal6, knownClass, outlineWithin, memberWithin, membersWithin, dowelWithin, coordinates, positionsWithin, loadsWithin, fieldsWithin, outlineEmpty, emptyOutlines, noForce, firstHolding, refusalNumber, drillFault, refusalOf}
 use native.Mathlib.Nat.{lt-of-not-le, mul-le-mul-right, lt-of-mul-lt-mul-left, not-le-of-lt}
 use mathlib.Core.Logic.{⊎-elim}
 use lib.Dec.{lit<, lit≤}
@@ -217,7 +218,7 @@ module _ (F t1 : ℕ) (p : Passed (kin F t1 fourDowels)) where
 
 -- ---- the tests at numerals
 accepted-B : Accepted (recordOf headerB membersB dowelB positionsB loadsB)
-unfolding refusalOf refusalNumber firstFrom refusal1 refusal2 refusal3 pairFrom refusal4 oneIf once refusal5 positionsLength refusal6 coordinate force knownClass outlineWithin memberWithin membersWithin dowelWithin coordinates positionsWithin loadsWithin fieldsWithin outlineEmpty emptyOutlines noForce drillFault twosComplement i32At partOfPair pairOfKind outlineAt memberAt membersIn dowelIn column positionsIn loadsIn valuesOf pairFault endFault edgeFault verdictIn memberVerdict spacingVerdict alongEnough endPasses firstIndex partner firstPair
+unfolding refusalOf refusalNumber firstHolding refusal1 refusal2 refusal3 numberAt bound allFollow chained refusal4 oneIf once refusal5 positionsLength refusal6 coordinate force knownClass outlineWithin memberWithin membersWithin dowelWithin coordinates positionsWithin loadsWithin fieldsWithin outlineEmpty emptyOutlines noForce drillFault twosComplement i32At partOfPair pairOfKind outlineAt memberAt membersIn dowelIn column positionsIn loadsIn valuesOf pairFault endFault edgeFault verdictIn memberVerdict spacingVerdict alongEnough endPasses firstIndex partner firstPair
 accepted-B = refl
 
 values-B : valuesOf (recordOf headerB membersB dowelB positionsB loadsB) ≡ kin 20000 600 fourDowels
@@ -228,7 +229,7 @@ passed-B : Passed (kin 20000 600 fourDowels)
 passed-B = known-passed (recordOf headerB membersB dowelB positionsB loadsB) (kin 20000 600 fourDowels) accepted-B values-B
 
 accepted-26700 : Accepted (recordOf headerB membersB dowelB positionsB (set (set loadsB 3 76) 4 104))
-unfolding refusalOf refusalNumber firstFrom refusal1 refusal2 refusal3 pairFrom refusal4 oneIf once refusal5 positionsLength refusal6 coordinate force knownClass outlineWithin memberWithin membersWithin dowelWithin coordinates positionsWithin loadsWithin fieldsWithin outlineEmpty emptyOutlines noForce drillFault twosComplement i32At partOfPair pairOfKind outlineAt memberAt membersIn dowelIn column positionsIn loadsIn valuesOf pairFault endFault edgeFault verdictIn memberVerdict spacingVerdict alongEnough endPasses firstIndex partner firstPair
+unfolding refusalOf refusalNumber firstHolding refusal1 refusal2 refusal3 numberAt bound allFollow chained refusal4 oneIf once refusal5 positionsLength refusal6 coordinate force knownClass outlineWithin memberWithin membersWithin dowelWithin coordinates positionsWithin loadsWithin fieldsWithin outlineEmpty emptyOutlines noForce drillFault twosComplement i32At partOfPair pairOfKind outlineAt memberAt membersIn dowelIn column positionsIn loadsIn valuesOf pairFault endFault edgeFault verdictIn memberVerdict spacingVerdict alongEnough endPasses firstIndex partner firstPair
 accepted-26700 = refl
 
 values-26700 : valuesOf (recordOf headerB membersB dowelB positionsB (set (set loadsB 3 76) 4 104)) ≡ kin 26700 600 fourDowels
@@ -239,7 +240,7 @@ passed-26700 : Passed (kin 26700 600 fourDowels)
 passed-26700 = known-passed (recordOf headerB membersB dowelB positionsB (set (set loadsB 3 76) 4 104)) (kin 26700 600 fourDowels) accepted-26700 values-26700
 
 accepted-27000 : Accepted (recordOf headerB membersB dowelB positionsB (set (set loadsB 3 120) 4 105))
-unfolding refusalOf refusalNumber firstFrom refusal1 refusal2 refusal3 pairFrom refusal4 oneIf once refusal5 positionsLength refusal6 coordinate force knownClass outlineWithin memberWithin membersWithin dowelWithin coordinates positionsWithin loadsWithin fieldsWithin outlineEmpty emptyOutlines noForce drillFault twosComplement i32At partOfPair pairOfKind outlineAt memberAt membersIn dowelIn column positionsIn loadsIn valuesOf pairFault endFault edgeFault verdictIn memberVerdict spacingVerdict alongEnough endPasses firstIndex partner firstPair
+unfolding refusalOf refusalNumber firstHolding refusal1 refusal2 refusal3 numberAt bound allFollow chained refusal4 oneIf once refusal5 positionsLength refusal6 coordinate force knownClass outlineWithin memberWithin membersWithin dowelWithin coordinates positionsWithin loadsWithin fieldsWithin outlineEmpty emptyOutlines noForce drillFault twosComplement i32At partOfPair pairOfKind outlineAt memberAt membersIn dowelIn column positionsIn loadsIn valuesOf pairFault endFault edgeFault verdictIn memberVerdict spacingVerdict alongEnough endPasses firstIndex partner firstPair
 accepted-27000 = refl
 
 values-27000 : valuesOf (recordOf headerB membersB dowelB positionsB (set (set loadsB 3 120) 4 105)) ≡ kin 27000 600 fourDowels
@@ -250,7 +251,7 @@ passed-27000 : Passed (kin 27000 600 fourDowels)
 passed-27000 = known-passed (recordOf headerB membersB dowelB positionsB (set (set loadsB 3 120) 4 105)) (kin 27000 600 fourDowels) accepted-27000 values-27000
 
 accepted-200 : Accepted (recordOf headerB (set (set membersB 4 200) 5 0) dowelB positionsB loadsB)
-unfolding refusalOf refusalNumber firstFrom refusal1 refusal2 refusal3 pairFrom refusal4 oneIf once refusal5 positionsLength refusal6 coordinate force knownClass outlineWithin memberWithin membersWithin dowelWithin coordinates positionsWithin loadsWithin fieldsWithin outlineEmpty emptyOutlines noForce drillFault twosComplement i32At partOfPair pairOfKind outlineAt memberAt membersIn dowelIn column positionsIn loadsIn valuesOf pairFault endFault edgeFault verdictIn memberVerdict spacingVerdict alongEnough endPasses firstIndex partner firstPair
+unfolding refusalOf refusalNumber firstHolding refusal1 refusal2 refusal3 numberAt bound allFollow chained refusal4 oneIf once refusal5 positionsLength refusal6 coordinate force knownClass outlineWithin memberWithin membersWithin dowelWithin coordinates positionsWithin loadsWithin fieldsWithin outlineEmpty emptyOutlines noForce drillFault twosComplement i32At partOfPair pairOfKind outlineAt memberAt membersIn dowelIn column positionsIn loadsIn valuesOf pairFault endFault edgeFault verdictIn memberVerdict spacingVerdict alongEnough endPasses firstIndex partner firstPair
 accepted-200 = refl
 
 values-200 : valuesOf (recordOf headerB (set (set membersB 4 200) 5 0) dowelB positionsB loadsB) ≡ kin 20000 200 fourDowels
@@ -261,7 +262,7 @@ passed-200 : Passed (kin 20000 200 fourDowels)
 passed-200 = known-passed (recordOf headerB (set (set membersB 4 200) 5 0) dowelB positionsB loadsB) (kin 20000 200 fourDowels) accepted-200 values-200
 
 accepted-lone : Accepted (recordOf loneHeader membersB dowelB lonePositions (set (set loadsB 3 184) 4 11))
-unfolding refusalOf refusalNumber firstFrom refusal1 refusal2 refusal3 pairFrom refusal4 oneIf once refusal5 positionsLength refusal6 coordinate force knownClass outlineWithin memberWithin membersWithin dowelWithin coordinates positionsWithin loadsWithin fieldsWithin outlineEmpty emptyOutlines noForce drillFault twosComplement i32At partOfPair pairOfKind outlineAt memberAt membersIn dowelIn column positionsIn loadsIn valuesOf pairFault endFault edgeFault verdictIn memberVerdict spacingVerdict alongEnough endPasses firstIndex partner firstPair
+unfolding refusalOf refusalNumber firstHolding refusal1 refusal2 refusal3 numberAt bound allFollow chained refusal4 oneIf once refusal5 positionsLength refusal6 coordinate force knownClass outlineWithin memberWithin membersWithin dowelWithin coordinates positionsWithin loadsWithin fieldsWithin outlineEmpty emptyOutlines noForce drillFault twosComplement i32At partOfPair pairOfKind outlineAt memberAt membersIn dowelIn column positionsIn loadsIn valuesOf pairFault endFault edgeFault verdictIn memberVerdict spacingVerdict alongEnough endPasses firstIndex partner firstPair
 accepted-lone = refl
 
 values-lone : valuesOf (recordOf loneHeader membersB dowelB lonePositions (set (set loadsB 3 184) 4 11)) ≡ kin 3000 600 lone
@@ -272,27 +273,27 @@ passed-lone : Passed (kin 3000 600 lone)
 passed-lone = known-passed (recordOf loneHeader membersB dowelB lonePositions (set (set loadsB 3 184) 4 11)) (kin 3000 600 lone) accepted-lone values-lone
 
 refused-599 : refusalOf (recordOf headerB membersB dowelB (set (set positionsB 10 87) 26 87) loadsB) ≡ fault 10 1 1 2
-unfolding refusalOf refusalNumber firstFrom refusal1 refusal2 refusal3 pairFrom refusal4 oneIf once refusal5 positionsLength refusal6 coordinate force knownClass outlineWithin memberWithin membersWithin dowelWithin coordinates positionsWithin loadsWithin fieldsWithin outlineEmpty emptyOutlines noForce drillFault twosComplement i32At partOfPair pairOfKind outlineAt memberAt membersIn dowelIn column positionsIn loadsIn valuesOf pairFault endFault edgeFault verdictIn memberVerdict spacingVerdict alongEnough endPasses firstIndex partner firstPair
+unfolding refusalOf refusalNumber firstHolding refusal1 refusal2 refusal3 numberAt bound allFollow chained refusal4 oneIf once refusal5 positionsLength refusal6 coordinate force knownClass outlineWithin memberWithin membersWithin dowelWithin coordinates positionsWithin loadsWithin fieldsWithin outlineEmpty emptyOutlines noForce drillFault twosComplement i32At partOfPair pairOfKind outlineAt memberAt membersIn dowelIn column positionsIn loadsIn valuesOf pairFault endFault edgeFault verdictIn memberVerdict spacingVerdict alongEnough endPasses firstIndex partner firstPair
 refused-599 = refl
 
 refused-1439 : refusalOf (recordOf headerB (set membersB 34 159) dowelB positionsB loadsB) ≡ fault 11 2 2 0
-unfolding refusalOf refusalNumber firstFrom refusal1 refusal2 refusal3 pairFrom refusal4 oneIf once refusal5 positionsLength refusal6 coordinate force knownClass outlineWithin memberWithin membersWithin dowelWithin coordinates positionsWithin loadsWithin fieldsWithin outlineEmpty emptyOutlines noForce drillFault twosComplement i32At partOfPair pairOfKind outlineAt memberAt membersIn dowelIn column positionsIn loadsIn valuesOf pairFault endFault edgeFault verdictIn memberVerdict spacingVerdict alongEnough endPasses firstIndex partner firstPair
+unfolding refusalOf refusalNumber firstHolding refusal1 refusal2 refusal3 numberAt bound allFollow chained refusal4 oneIf once refusal5 positionsLength refusal6 coordinate force knownClass outlineWithin memberWithin membersWithin dowelWithin coordinates positionsWithin loadsWithin fieldsWithin outlineEmpty emptyOutlines noForce drillFault twosComplement i32At partOfPair pairOfKind outlineAt memberAt membersIn dowelIn column positionsIn loadsIn valuesOf pairFault endFault edgeFault verdictIn memberVerdict spacingVerdict alongEnough endPasses firstIndex partner firstPair
 refused-1439 = refl
 
 refused-719 : refusalOf (recordOf headerB (set membersB 18 207) dowelB positionsB loadsB) ≡ fault 12 1 3 0
-unfolding refusalOf refusalNumber firstFrom refusal1 refusal2 refusal3 pairFrom refusal4 oneIf once refusal5 positionsLength refusal6 coordinate force knownClass outlineWithin memberWithin membersWithin dowelWithin coordinates positionsWithin loadsWithin fieldsWithin outlineEmpty emptyOutlines noForce drillFault twosComplement i32At partOfPair pairOfKind outlineAt memberAt membersIn dowelIn column positionsIn loadsIn valuesOf pairFault endFault edgeFault verdictIn memberVerdict spacingVerdict alongEnough endPasses firstIndex partner firstPair
+unfolding refusalOf refusalNumber firstHolding refusal1 refusal2 refusal3 numberAt bound allFollow chained refusal4 oneIf once refusal5 positionsLength refusal6 coordinate force knownClass outlineWithin memberWithin membersWithin dowelWithin coordinates positionsWithin loadsWithin fieldsWithin outlineEmpty emptyOutlines noForce drillFault twosComplement i32At partOfPair pairOfKind outlineAt memberAt membersIn dowelIn column positionsIn loadsIn valuesOf pairFault endFault edgeFault verdictIn memberVerdict spacingVerdict alongEnough endPasses firstIndex partner firstPair
 refused-719 = refl
 
 refused-199 : refusalOf (recordOf headerB (set (set membersB 4 199) 5 0) dowelB positionsB loadsB) ≡ fault 7 0 0 0
-unfolding refusalOf refusalNumber firstFrom refusal1 refusal2 refusal3 pairFrom refusal4 oneIf once refusal5 positionsLength refusal6 coordinate force knownClass outlineWithin memberWithin membersWithin dowelWithin coordinates positionsWithin loadsWithin fieldsWithin outlineEmpty emptyOutlines noForce drillFault twosComplement i32At partOfPair pairOfKind outlineAt memberAt membersIn dowelIn column positionsIn loadsIn valuesOf pairFault endFault edgeFault verdictIn memberVerdict spacingVerdict alongEnough endPasses firstIndex partner firstPair
+unfolding refusalOf refusalNumber firstHolding refusal1 refusal2 refusal3 numberAt bound allFollow chained refusal4 oneIf once refusal5 positionsLength refusal6 coordinate force knownClass outlineWithin memberWithin membersWithin dowelWithin coordinates positionsWithin loadsWithin fieldsWithin outlineEmpty emptyOutlines noForce drillFault twosComplement i32At partOfPair pairOfKind outlineAt memberAt membersIn dowelIn column positionsIn loadsIn valuesOf pairFault endFault edgeFault verdictIn memberVerdict spacingVerdict alongEnough endPasses firstIndex partner firstPair
 refused-199 = refl
 
 accepted-504 : Accepted (recordOf pairHeader membersB dowelB (pairPositions 248 1) pairLoads)
-unfolding refusalOf refusalNumber firstFrom refusal1 refusal2 refusal3 pairFrom refusal4 oneIf once refusal5 positionsLength refusal6 coordinate force knownClass outlineWithin memberWithin membersWithin dowelWithin coordinates positionsWithin loadsWithin fieldsWithin outlineEmpty emptyOutlines noForce drillFault twosComplement i32At partOfPair pairOfKind outlineAt memberAt membersIn dowelIn column positionsIn loadsIn valuesOf pairFault endFault edgeFault verdictIn memberVerdict spacingVerdict alongEnough endPasses firstIndex partner firstPair
+unfolding refusalOf refusalNumber firstHolding refusal1 refusal2 refusal3 numberAt bound allFollow chained refusal4 oneIf once refusal5 positionsLength refusal6 coordinate force knownClass outlineWithin memberWithin membersWithin dowelWithin coordinates positionsWithin loadsWithin fieldsWithin outlineEmpty emptyOutlines noForce drillFault twosComplement i32At partOfPair pairOfKind outlineAt memberAt membersIn dowelIn column positionsIn loadsIn valuesOf pairFault endFault edgeFault verdictIn memberVerdict spacingVerdict alongEnough endPasses firstIndex partner firstPair
 accepted-504 = refl
 
 refused-503 : refusalOf (recordOf pairHeader membersB dowelB (pairPositions 247 1) pairLoads) ≡ fault 10 1 1 2
-unfolding refusalOf refusalNumber firstFrom refusal1 refusal2 refusal3 pairFrom refusal4 oneIf once refusal5 positionsLength refusal6 coordinate force knownClass outlineWithin memberWithin membersWithin dowelWithin coordinates positionsWithin loadsWithin fieldsWithin outlineEmpty emptyOutlines noForce drillFault twosComplement i32At partOfPair pairOfKind outlineAt memberAt membersIn dowelIn column positionsIn loadsIn valuesOf pairFault endFault edgeFault verdictIn memberVerdict spacingVerdict alongEnough endPasses firstIndex partner firstPair
+unfolding refusalOf refusalNumber firstHolding refusal1 refusal2 refusal3 numberAt bound allFollow chained refusal4 oneIf once refusal5 positionsLength refusal6 coordinate force knownClass outlineWithin memberWithin membersWithin dowelWithin coordinates positionsWithin loadsWithin fieldsWithin outlineEmpty emptyOutlines noForce drillFault twosComplement i32At partOfPair pairOfKind outlineAt memberAt membersIn dowelIn column positionsIn loadsIn valuesOf pairFault endFault edgeFault verdictIn memberVerdict spacingVerdict alongEnough endPasses firstIndex partner firstPair
 refused-503 = refl
 
 capacity-B : AtMostR (planeOf (kin 20000 600 fourDowels)) (whole 7441)
