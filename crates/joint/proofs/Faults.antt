@@ -14,10 +14,9 @@ use Rattle.spacing.specs.Verdict.{fault, orElse, pairFault, endFault, edgeFault
 use Rattle.joint.specs.Layout.{valuesOf}
 use Rattle.joint.specs.Order.{tests, position}
 use Rattle.numbers.specs.Numbers.{force}
-use Rattle.joint.specs.Refusal.{between, dowelWithin, positionsWithin, loadsWithin, membersWithin, fieldsWithin, coordinates, noForce, fault10, fault11, fault12, isFault, scriptTests, designerTests, drillTests, firstHolding, refusalNumber, drillFault, refusalOf, frame, alongs, acrosses, refusedBy, outcome, outcomeOf}
-use Rattle.joint.specs.declared.Dowel.{Dowel}
-use Rattle.joint.specs.declared.Loads.{Loads}
-use Rattle.joint.specs.declared.Positions.{Positions}
+use Rattle.joint.specs.Refusal.{loadsWithin, fieldsWithin, noForce, scriptTests, designerTests, drillTests, firstHolding}
+use Rattle.joint.specs.Refusal.{fault10, fault11, fault12, isFault, frame, alongs, acrosses, drillFault}
+use Rattle.joint.specs.Refusal.{refusalNumber, refusalOf, refusedBy, outcome, outcomeOf}
 use Rattle.joint.specs.declared.Values.{Values}
 use Rattle.joint.specs.Stage.{partsOf, layout, layoutNumber, stage, stageNumber, valueTests}
 use Rattle.joint.specs.declared.Stage.{Stage}
@@ -25,14 +24,12 @@ use Rattle.joint.specs.declared.Stage.the-variants.{Passed, Refused}
 use Rattle.joint.specs.declared.layout.Parts.{Parts}
 use Rattle.joint.specs.declared.layout.Layout.{Layout}
 use Rattle.joint.specs.declared.layout.Layout.the-variants.{Laid, Refused as LayoutRefused}
+use Rattle.joint.proofs.Accepted.{fields-hold}
 use Rattle.joint.proofs.Holding.{none-holds, first-zero, first-kept}
 use Rattle.joint.proofs.Stages.{layout-number, laid-number, layout-refused, stage-number, stage-passed, stage-refused}
 use Rattle.joint.proofs.Tests.{first-of, second-of}
 
 -- ---- what 7 and 9 leave
-at-most : (low high n : ℕ) → between low high n ≡ true → n ≤ high
-at-most low high n h = leb-true n high (second-of (leb low n) (leb n high) h)
-
 small-force : (z : ℤ) → force z ≡ true → natAbs z ≤ 1000000
 unfolding force
 small-force (pos n) h = leb-true n 1000000 h
@@ -43,73 +40,36 @@ some-force zero zero h = let z : _≡_ {A = ℕ} 0 1 = cc in absurd (omega arith
 some-force zero (suc b) h = omega arith
 some-force (suc a) b h = omega arith
 
-thick : (w : Dowel) → dowelWithin w ≡ true → w .diameter ≤ 30
-unfolding dowelWithin
-thick w h = at-most 6 30 (w .diameter) (first-of (between 6 30 (w .diameter)) _ h)
-
-most : (p : Positions) → positionsWithin p ≡ true → p .n ≤ 64
-unfolding positionsWithin
-most p h =
-    at-most 1 64 (p .n)
-    (first-of (between 1 64 (p .n)) _ (first-of (between 1 64 (p .n) && coordinates (p .x) (p .n)) _ h))
-
-small-x : (l : Loads) → loadsWithin l ≡ true → natAbs (l .fx) ≤ 1000000
-unfolding loadsWithin
-small-x l h =
-    let a = between 1 3 (l .«service_class») in
-    let b = between 1 5 (l .duration) in
-    small-force (l .fx) (second-of (a && b) _ (first-of (a && b && force (l .fx)) _ h))
-
-small-y : (l : Loads) → loadsWithin l ≡ true → natAbs (l .fy) ≤ 1000000
-unfolding loadsWithin
-small-y l h =
-    let a = between 1 3 (l .«service_class») in
-    let b = between 1 5 (l .duration) in
-    small-force (l .fy) (second-of (a && b && force (l .fx)) _ h)
-
-some : (l : Loads) → noForce l ≡ false → 0 < natAbs (l .fx) + natAbs (l .fy)
-unfolding noForce
-some l h = some-force (natAbs (l .fx)) (natAbs (l .fy)) h
-
-pub given : (v : Values) → not (fieldsWithin v) ≡ false → noForce (v .loads) ≡ false → Given (v .dowel .diameter) (v .loads .fx) (v .loads .fy) (v .positions .n)
-unfolding fieldsWithin
+pub given : (v : Values) → not (fieldsWithin v) ≡ false → noForce (v .loads) ≡ false
+    → Given (v .dowel .diameter) (v .loads .fx) (v .loads .fy) (v .positions .n)
+unfolding fieldsWithin loadsWithin noForce
 given v h g =
-    let m = membersWithin (v .members) in
-    let w = dowelWithin (v .dowel) in
-    let p = positionsWithin (v .positions) in
-    let all = not-false _ h in
-    let l : loadsWithin (v .loads) ≡ true = second-of (m && w && p) _ all in
-    record {
-      force =
-          record {
-            thick = thick (v .dowel) (second-of m _ (first-of (m && w) _ (first-of (m && w && p) _ all)));
-            x-small = small-x (v .loads) l;
-            y-small = small-y (v .loads) l;
-            some = some (v .loads) g;
-          };
-      most = most (v .positions) (second-of (m && w) _ (first-of (m && w && p) _ all));
-    }
+    let t = not-false (fieldsWithin v) h in
+    let f = fields-hold v h in
+    let s = some-force (natAbs (v .loads .fx)) (natAbs (v .loads .fy)) g in
+    search (small-force, first-of, second-of)
 
 pub drill-given : {r : Stage} (v : Values) → r ≡ stage (firstHolding 7 (valueTests v)) → r ≡ Passed
     → Given (v .dowel .diameter) (v .loads .fx) (v .loads .fy) (v .positions .n)
 drill-given v e h = let n = none-holds 6 (valueTests v) (stage-passed _ e h) in given v (n .none 0) (n .none 2)
 
--- ---- faults in a row
-chain : List Fault → Fault
-chain [] = fault 0 0 0 0
-chain (f ∷ fs) = orElse f (chain fs)
+-- ---- the first of faults in a row
+inRow : List Fault → Fault
+inRow [] = fault 0 0 0 0
+inRow (f ∷ fs) = orElse f (inRow fs)
 
 -- each fault that is one stands at its place in the order
 Placed : ℕ → List Fault → Type 0
 Placed k [] = Unit
 Placed k (f ∷ fs) = (isFault f ≡ true → position f ≡ k) × Placed (suc k) fs
 
-chain-position : (k : ℕ) (fs : List Fault) → Placed (suc k) fs → position (chain fs) ≡ firstHolding (suc k) (map isFault fs)
-unfolding chain Placed firstHolding
-chain-position k [] p = refl
-chain-position k (f ∷ fs) p = of (eqb (f .number) 0) refl (chain-position (suc k) fs (p .1)) (p .0)
+row-position : (k : ℕ) (fs : List Fault) → Placed (suc k) fs → position (inRow fs) ≡ firstHolding (suc k) (map isFault fs)
+unfolding inRow Placed firstHolding
+row-position k [] p = refl
+row-position k (f ∷ fs) p = of (eqb (f .number) 0) refl (row-position (suc k) fs (p .1)) (p .0)
   where
-    of : (b : Bool) → eqb (f .number) 0 ≡ b → position (chain fs) ≡ firstHolding (suc (suc k)) (map isFault fs) → (isFault f ≡ true → position f ≡ suc k) → position (chain (f ∷ fs)) ≡ firstHolding (suc k) (map isFault (f ∷ fs))
+    of : (b : Bool) → eqb (f .number) 0 ≡ b → position (inRow fs) ≡ firstHolding (suc (suc k)) (map isFault fs)
+        → (isFault f ≡ true → position f ≡ suc k) → position (inRow (f ∷ fs)) ≡ firstHolding (suc k) (map isFault (f ∷ fs))
     of true e ih q = simp e ih
     of false e ih q = simp e (q (simp e))
 
@@ -140,13 +100,13 @@ last-clean f q = of (eqb (f .number) 0) refl
     of true e = simp e (sym (q (eqb-true _ _ e)))
     of false e = simp e
 
-chain-clean : (fs : List Fault) → Clean (chain fs)
-unfolding chain Clean
-chain-clean [] h = refl
-chain-clean (f ∷ fs) h = or-clean f (chain fs) (chain-clean fs) h
+row-clean : (fs : List Fault) → Clean (inRow fs)
+unfolding inRow Clean
+row-clean [] h = refl
+row-clean (f ∷ fs) h = or-clean f (inRow fs) (row-clean fs) h
 
-six : (a b c d e f : Fault) → Clean f → orElse (orElse a (orElse b c)) (orElse d (orElse e f)) ≡ chain (a ∷ b ∷ c ∷ d ∷ e ∷ f ∷ [])
-unfolding chain
+six : (a b c d e f : Fault) → Clean f → orElse (orElse a (orElse b c)) (orElse d (orElse e f)) ≡ inRow (a ∷ b ∷ c ∷ d ∷ e ∷ f ∷ [])
+unfolding inRow
 six a b c d e f q =
     or-assoc a (orElse b c) (orElse d (orElse e f))
     ∙ ap (λ (z : Fault). orElse a z) (or-assoc b c (orElse d (orElse e f)))
@@ -158,7 +118,8 @@ unfolding Clean
 one-clean true k m i j h = absurd (omega arith)
 one-clean false k m i j h = refl
 
-one-placed : (t : Bool) (k m i j p : ℕ) → cond (eqb m 2) (k + 3) k ≡ p → isFault (cond t (fault k m i j) (fault 0 0 0 0)) ≡ true → position (cond t (fault k m i j) (fault 0 0 0 0)) ≡ p
+one-placed : (t : Bool) (k m i j p : ℕ) → cond (eqb m 2) (k + 3) k ≡ p → isFault (cond t (fault k m i j) (fault 0 0 0 0)) ≡ true
+    → position (cond t (fault k m i j) (fault 0 0 0 0)) ≡ p
 one-placed true k m i j p e h = e
 one-placed false k m i j p e h = cc
 
@@ -191,9 +152,9 @@ placed12 k p v e =
 drill-faults : Values → List Fault
 drill-faults v = fault10 1 v ∷ fault11 1 v ∷ fault12 1 v ∷ fault10 2 v ∷ fault11 2 v ∷ fault12 2 v ∷ []
 
-drill-chain : (v : Values) → drillFault v ≡ chain (drill-faults v)
+drill-row : (v : Values) → drillFault v ≡ inRow (drill-faults v)
 unfolding drillFault spacingVerdict memberVerdict verdictIn fault10 fault11 fault12 drill-faults
-drill-chain v = six (fault10 1 v) (fault11 1 v) (fault12 1 v) (fault10 2 v) (fault11 2 v) (fault12 2 v) (edge-clean 2 v)
+drill-row v = six (fault10 1 v) (fault11 1 v) (fault12 1 v) (fault10 2 v) (fault11 2 v) (fault12 2 v) (edge-clean 2 v)
 
 drill-placed : (v : Values) → Placed 10 (drill-faults v)
 unfolding drill-faults Placed
@@ -211,11 +172,11 @@ drill-placed v = (
 drill-position : (s : List ℕ) → position (drillFault (valuesOf s)) ≡ firstHolding 10 (drillTests s)
 unfolding drill-faults
 drill-position s =
-    ap position (drill-chain (valuesOf s)) ∙ chain-position 9 (drill-faults (valuesOf s)) (drill-placed (valuesOf s))
+    ap position (drill-row (valuesOf s)) ∙ row-position 9 (drill-faults (valuesOf s)) (drill-placed (valuesOf s))
 
 drill-none : (v : Values) → drillFault v .number ≡ 0 → drillFault v ≡ fault 0 0 0 0
 unfolding Clean
-drill-none v h = drill-chain v ∙ chain-clean (drill-faults v) (rw drill-chain at h)
+drill-none v h = drill-row v ∙ row-clean (drill-faults v) (rw drill-row at h)
 
 -- ---- the whole order
 pub position-first : (s : List ℕ) → position (refusalOf s) ≡ firstHolding 1 (tests s)

@@ -9,10 +9,6 @@ use Rattle.joint.proofs.Faults.{position-first}
 use Rattle.joint.proofs.Holding.{exactly, exactly-none}
 
 -- ---- of a record: refusals 1 to 9, and all
-pub numbered : (s : List ℕ) (j : ℕ) → (refusalNumber s ≡ suc j) ↔ FirstAt (scriptTests s ++ designerTests s) j
-unfolding refusalNumber
-numbered s j = exactly j (scriptTests s ++ designerTests s)
-
 pub unnumbered : (s : List ℕ) → (refusalNumber s ≡ 0) ↔ NoneHolds (scriptTests s ++ designerTests s)
 unfolding refusalNumber
 unnumbered s = exactly-none (scriptTests s ++ designerTests s)

@@ -16,9 +16,13 @@ use Rattle.numbers.specs.Numbers.{u8At, u16At}
 use Rattle.chain.specs.declared.Width.the-variants.{Two}
 use Rattle.chain.specs.Chain.{numberAt, offsetOf, lengthOf, bound, chained, Read}
 use Rattle.chain.proofs.Laws.{filled-at, follow, inside}
-use Rattle.joint.specs.Layout.{version, pairCount, pairOffset, pairLength, pairSum, partOfPair, kindOfPair, pairOfKind, partOfKind, membersIn, dowelIn, positionsIn, loadsIn, valuesOf}
-use Rattle.joint.specs.Refusal.{refusal1, refusal2, refusal3, refusal4, refusal5, refusal6, positionsLength, oneIf, once, firstHolding, scriptTests, between, memberWithin, membersWithin, dowelWithin, positionsWithin, loadsWithin, fieldsWithin, outlineEmpty, emptyOutlines, noForce}
-use Rattle.joint.specs.Stage.{Bounded, present, partAt, found, pairTests, partsOf, layout, layoutNumber, Stretch, LaidOut, stage, stageNumber, valueTests}
+use Rattle.joint.specs.Layout.{version, pairCount, pairOffset, pairLength, pairSum, partOfPair, kindOfPair, pairOfKind, partOfKind}
+use Rattle.joint.specs.Layout.{membersIn, dowelIn, positionsIn, loadsIn, valuesOf}
+use Rattle.joint.specs.Refusal.{refusal1, refusal2, refusal3, refusal4, refusal5, refusal6, positionsLength, oneIf, once, firstHolding, scriptTests}
+use Rattle.joint.specs.Refusal.{between, memberWithin, membersWithin, dowelWithin, positionsWithin, loadsWithin, fieldsWithin}
+use Rattle.joint.specs.Refusal.{outlineEmpty, emptyOutlines, noForce}
+use Rattle.joint.specs.Stage.{Bounded, present, partAt, found, pairTests, partsOf, layout, layoutNumber, Stretch, LaidOut}
+use Rattle.joint.specs.Stage.{stage, stageNumber, valueTests}
 use Rattle.joint.specs.declared.Members.{Members}
 use Rattle.joint.specs.declared.Dowel.{Dowel}
 use Rattle.joint.specs.declared.Positions.{Positions}
@@ -89,7 +93,9 @@ pub bounded : (s bounds : List ℕ) {b : Bool} → Read Two s 4 20 4 (replicate 
 bounded s bounds r h =
     let right = sym (r .whole) ∙ not-false _ h in
     record {
-      start = λ k l. rw (r .bounds) (filled-at _ (replicate 5 0) k 5 (omega arith) (omega arith) ∙ sym (follow Two s 4 20 4 right k l .start) ∙ offset-is s k);
+      start = λ k l.
+          rw (r .bounds)
+          (filled-at _ (replicate 5 0) k 5 (omega arith) (omega arith) ∙ sym (follow Two s 4 20 4 right k l .start) ∙ offset-is s k);
       end = λ k l. rw (r .bounds) (filled-at _ (replicate 5 0) (suc k) 5 (omega arith) (omega arith) ∙ sum-is s k);
       some = λ k l. rw (length-is s k) at (follow Two s 4 20 4 right k l .some);
       inside = chain-inside s right;
@@ -269,6 +275,11 @@ module _ (s : List ℕ) where
   abbrev pub HeaderRight : Type 0
   HeaderRight = firstHolding 1 (scriptTests s) ≡ firstHolding 4 (pairTests s ++ refusal6 s ∷ [])
 
+  abbrev pub LengthsTested : Parts → Bool → Type 0
+  LengthsTested p q =
+      firstHolding 1 (scriptTests s)
+      ≡ firstHolding 6 (not (eqb (p .members .bytes) 42 && eqb (p .dowel .bytes) 3 && q && eqb (p .loads .bytes) 11) ∷ [])
+
   pub too-short : length s < 20 → LayoutRefused 1 ≡ answer
   unfolding refusal1 firstHolding layout
   too-short l = simp (lt-ltb (length s) 20 l)
@@ -317,25 +328,20 @@ module _ (s : List ℕ) where
       positions-inside = rw same (stretch 3 chain-right .inside)
 
       -- `part` is the stretch of the positions, and q whether its length is right
-      module _ (a : HeaderRight) {part : List ℕ} {q : Bool} (f : part ≡ take (p .positions .bytes) (drop (p .positions .start) s))
-          (g : q ≡ positionsLength part) where
-        abbrev sized : Bool
-        sized = eqb (p .members .bytes) 42 && eqb (p .dowel .bytes) 3 && q && eqb (p .loads .bytes) 11
+      pub lengths-tested : HeaderRight → {part : List ℕ} {q : Bool} → part ≡ take (p .positions .bytes) (drop (p .positions .start) s)
+          → q ≡ positionsLength part → LengthsTested p q
+      unfolding refusal6 partsOf partAt partOfPair
+      lengths-tested a f g =
+          a ∙ first-zero 3 6 (pairTests s) (refusal6 s ∷ []) (laid-number _ _ e h) refl
+          ∙ rw (g, f, same) (simp (part-length 1 chain-right, part-length 2 chain-right, part-length 4 chain-right))
 
-        six : refusal6 s ≡ not sized
-        unfolding refusal6 partsOf partAt partOfPair
-        six = rw (g, f, same) (simp (part-length 1 chain-right, part-length 2 chain-right, part-length 4 chain-right))
+      pub right-lengths : {b : Bool} → b ≡ false → firstHolding 1 (scriptTests s) ≡ firstHolding 6 (b ∷ []) → Laid p ≡ answer
+      unfolding firstHolding layout
+      right-lengths k a = rw (a, k) (ap Laid same)
 
-        last : firstHolding 1 (scriptTests s) ≡ firstHolding 6 (not sized ∷ [])
-        last = a ∙ first-zero 3 6 (pairTests s) (refusal6 s ∷ []) (laid-number _ _ e h) refl ∙ rw six
-
-        pub wrong-length : not sized ≡ true → LayoutRefused 6 ≡ answer
-        unfolding firstHolding layout
-        wrong-length k = rw (last, k)
-
-        pub right-lengths : not sized ≡ false → Laid p ≡ answer
-        unfolding firstHolding layout
-        right-lengths k = rw (last, k) (ap Laid same)
+  pub wrong-length : {b : Bool} → b ≡ true → firstHolding 1 (scriptTests s) ≡ firstHolding 6 (b ∷ []) → LayoutRefused 6 ≡ answer
+  unfolding firstHolding layout
+  wrong-length k a = rw (a, k)
 
   -- what is left for the reader of values
   pub laid-out : {r : Layout} {p : Parts} → r ≡ answer → r ≡ Laid p → LaidOut s p

@@ -5,4 +5,7 @@ use Rattle.joint.proofs.parts.positions_in.Tie as tie
 
 pub positions-in-spec : {M : Type 1} → statement M
 unfolding positionsIn
-positions-in-spec = tie.close (tie.spec (λ c. search needs) (λ c. search needs) (λ c κs. search needs) (λ c κs. search needs) (λ c. simp (c .before .column-of .ensures, c .column-of2 .ensures)))
+positions-in-spec =
+    tie.close
+    (tie.spec (λ c. search needs) (λ c. search needs) (λ c κs. search needs) (λ c κs. search needs)
+    (λ c. simp (c .before .column-of .ensures, c .column-of2 .ensures)))
