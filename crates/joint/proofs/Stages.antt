@@ -21,7 +21,7 @@ use Rattle.joint.specs.Layout.{membersIn, dowelIn, positionsIn, loadsIn,
 use Rattle.joint.specs.Refusal.{refusal1, refusal2, refusal3, refusal4, refusal5, refusal6, positionsLength, oneIf, once, firstHolding, scriptTests}
 use Rattle.joint.specs.Refusal.{between, memberWithin, membersWithin, dowelWithin, positionsWithin, loadsWithin, fieldsWithin}
 use Rattle.joint.specs.Refusal.{outlineEmpty, emptyOutlines, noForce}
-use Rattle.joint.specs.Stage.{Bounded, present, partAt, found, pairTests, partsOf, layout, layoutNumber, Stretch, LaidOut}
+use Rattle.joint.specs.Stage.{Bounded, present, partAt, found, partTests, partsOf, layout, layoutNumber, Stretch, LaidOut}
 use Rattle.joint.specs.Stage.{stage, stageNumber, valueTests}
 use Rattle.joint.specs.declared.Members.{Members}
 use Rattle.joint.specs.declared.Dowel.{Dowel}
@@ -89,6 +89,9 @@ sum-is s k = rw (offset-is s k, length-is s k)
 chain-inside : (s : List ℕ) → chained Two s 4 20 4 ≡ true → (k : ℕ) → k < 4 → pairSum s (suc k) ≤ length s
 chain-inside s h k l = rw (sum-is s k) at (inside Two s 4 20 4 h (suc k) (omega arith))
 
+chain-some : (s : List ℕ) → chained Two s 4 20 4 ≡ true → (k : ℕ) → k < 4 → 0 < pairLength s (suc k)
+chain-some s h k l = rw (length-is s k) at (follow Two s 4 20 4 h k l .some)
+
 pub bounded : (s bounds : List ℕ) {b : Bool} → Read Two s 4 20 4 (replicate 5 0) bounds b → not b ≡ false → Bounded s bounds
 bounded s bounds r h =
     let right = sym (r .whole) ∙ not-false _ h in
@@ -97,7 +100,7 @@ bounded s bounds r h =
           rw (r .bounds)
           (filled-at _ (replicate 5 0) k 5 (omega arith) (omega arith) ∙ sym (follow Two s 4 20 4 right k l .start) ∙ offset-is s k);
       end = λ k l. rw (r .bounds) (filled-at _ (replicate 5 0) (suc k) 5 (omega arith) (omega arith) ∙ sum-is s k);
-      some = λ k l. rw (length-is s k) at (follow Two s 4 20 4 right k l .some);
+      some = chain-some s right;
       inside = chain-inside s right;
     }
 
@@ -223,62 +226,113 @@ pair-in P f s kind = of (eqb (kindOfPair s 1) kind) (eqb (kindOfPair s 2) kind) 
     of false false true = f 2 (omega arith)
     of false false false = f 3 (omega arith)
 
--- a part that was looked for has bytes where its kind is there
-module _ {s bounds : List ℕ} (b : Bounded s bounds) {r : Part} (kind : ℕ) (e : r ≡ found s kind) where
-  no-bytes : eqb (r .bytes) 0 ≡ not (present s kind)
-  unfolding found partAt
-  no-bytes = of (present s kind) e
-    where
-      of : (t : Bool) → r ≡ cond t (partAt s (pairOfKind s kind)) (record { start = 0; bytes = 0 }) → eqb (r .bytes) 0 ≡ not t
-      of true q = rw q (ne-eqb _ _ (pair-in (λ k. pairLength s k ≡ 0 → ⊥) (λ k l z. let g = b .some k l in omega arith) s kind))
-      of false q = rw q
+-- ---- refusals 4 to 6, one after the other
+-- a part of a right chain lies within the record, and its length is its pair's
+module _ (s : List ℕ) (h : refusal4 s ≡ false) (kind : ℕ) where
+  stretch : Stretch s kind (partAt s (pairOfKind s kind))
+  unfolding refusal4 partAt partOfPair
+  stretch = record {
+    inside = pair-in (λ k. pairSum s k ≤ length s) (chain-inside s (not-false (chained Two s 4 20 4) h)) s kind;
+    bytes = refl;
+  }
 
-  found-part : eqb (r .bytes) 0 ≡ false → r ≡ partAt s (pairOfKind s kind)
-  unfolding found
-  found-part h = let t : present s kind ≡ true = not-false (present s kind) (sym no-bytes ∙ h) in cc
+  part-length : length (partOfKind s kind) ≡ pairLength s (pairOfKind s kind)
+  unfolding partOfPair partAt
+  part-length =
+      let i = stretch .inside in
+      length-take-le _ (drop (pairOffset s (pairOfKind s kind)) s) (rw length-drop (omega arith))
 
--- ---- refusals 4 and 5, one after the other
+  -- it has bytes where its kind is there
+  module _ {r : Part} (e : r ≡ found s kind) where
+    no-bytes : eqb (r .bytes) 0 ≡ not (present s kind)
+    unfolding found partAt refusal4
+    no-bytes = of (present s kind) e
+      where
+        some : (k : ℕ) → k < 4 → 0 < pairLength s (suc k)
+        some = chain-some s (not-false (chained Two s 4 20 4) h)
+
+        of : (t : Bool) → r ≡ cond t (partAt s (pairOfKind s kind)) (record { start = 0; bytes = 0 }) → eqb (r .bytes) 0 ≡ not t
+        of true q = rw q (ne-eqb _ _ (pair-in (λ k. pairLength s k ≡ 0 → ⊥) (λ k l z. let g = some k l in omega arith) s kind))
+        of false q = rw q
+
+    found-part : eqb (r .bytes) 0 ≡ false → r ≡ partAt s (pairOfKind s kind)
+    unfolding found
+    found-part k = let t : present s kind ≡ true = not-false (present s kind) (sym no-bytes ∙ k) in cc
+
 module _ {s bounds : List ℕ} {b : Bool} (e : Read Two s 4 20 4 (replicate 5 0) bounds b) where
-  pub pairs-broken : not b ≡ true → LayoutRefused 4 ≡ layout (firstHolding 4 (pairTests s)) (partsOf s)
+  pub pairs-broken : not b ≡ true → LayoutRefused 4 ≡ layout (firstHolding 4 (partTests s)) (partsOf s)
   unfolding refusal4 firstHolding layout
   pairs-broken h = let w = e .whole in let n = not-true b h in cc
 
-  module _ (h : not b ≡ false) {p1 p2 p3 p4 : Part} (a1 : p1 ≡ found s 1) (a2 : p2 ≡ found s 2) (a3 : p3 ≡ found s 3) (a4 : p4 ≡ found s 4) where
-    four : refusal4 s ≡ false
-    unfolding refusal4
-    four = let w = e .whole in let n = not-false b h in cc
+  pub pairs-right : not b ≡ false → refusal4 s ≡ false
+  unfolding refusal4
+  pairs-right h = let w = e .whole in let n = not-false b h in cc
 
-    five : refusal5 s ≡ (eqb (p1 .bytes) 0 || eqb (p2 .bytes) 0 || eqb (p3 .bytes) 0 || eqb (p4 .bytes) 0)
-    five =
-        let c = bounded s bounds e h in
-        rw (no-bytes c 1 a1, no-bytes c 2 a2, no-bytes c 3 a3, no-bytes c 4 a4)
-        (kinds-test s (present s 1) (present s 2) (present s 3) (present s 4) refl refl refl refl)
+-- the parts that were found for the kinds of a right chain
+pub record Looked (s : List ℕ) (p1 p2 p3 p4 : Part) : Type 0 where
+  pub right : refusal4 s ≡ false
+  pub members : p1 ≡ found s 1
+  pub dowel : p2 ≡ found s 2
+  pub positions : p3 ≡ found s 3
+  pub loads : p4 ≡ found s 4
 
-    pub kinds-missing : (eqb (p1 .bytes) 0 || eqb (p2 .bytes) 0 || eqb (p3 .bytes) 0 || eqb (p4 .bytes) 0) ≡ true
-        → LayoutRefused 5 ≡ layout (firstHolding 4 (pairTests s)) (partsOf s)
-    unfolding firstHolding layout
-    kinds-missing k = let f = four in let g = five in cc
+module _ {s : List ℕ} {p1 p2 p3 p4 : Part} (a : Looked s p1 p2 p3 p4) where
+  abbrev partsAnswer : Layout
+  partsAnswer = layout (firstHolding 4 (partTests s)) (partsOf s)
 
-    pub kinds-found : (eqb (p1 .bytes) 0 || eqb (p2 .bytes) 0 || eqb (p3 .bytes) 0 || eqb (p4 .bytes) 0) ≡ false
-        → Laid (record { members = p1; dowel = p2; positions = p3; loads = p4 }) ≡ layout (firstHolding 4 (pairTests s)) (partsOf s)
-    unfolding firstHolding layout partsOf
-    kinds-found k =
-        let c = bounded s bounds e h in
-        let n = none-of (eqb (p1 .bytes) 0) _ _ _ k in
-        simp (four, five ∙ k, found-part c 1 a1 (n .0), found-part c 2 a2 (n .1), found-part c 3 a3 (n .2), found-part c 4 a4 (n .3))
+  abbrev missingOne : Bool
+  missingOne = eqb (p1 .bytes) 0 || eqb (p2 .bytes) 0 || eqb (p3 .bytes) 0 || eqb (p4 .bytes) 0
+
+  five : refusal5 s ≡ missingOne
+  five =
+      let r = a .right in
+      rw (no-bytes s r 1 (a .members), no-bytes s r 2 (a .dowel), no-bytes s r 3 (a .positions), no-bytes s r 4 (a .loads))
+      (kinds-test s (present s 1) (present s 2) (present s 3) (present s 4) refl refl refl refl)
+
+  pub kinds-missing : missingOne ≡ true → LayoutRefused 5 ≡ partsAnswer
+  unfolding firstHolding layout
+  kinds-missing k = simp (a .right, five ∙ k)
+
+  module _ (k : missingOne ≡ false) where
+    abbrev Part-of : Part → ℕ → Type 0
+    Part-of p kind = p ≡ partAt s (pairOfKind s kind)
+
+    are : Part-of p1 1 × Part-of p2 2 × Part-of p3 3 × Part-of p4 4
+    are =
+        let r = a .right in
+        let n = none-of (eqb (p1 .bytes) 0) _ _ _ k in (
+          found-part s r 1 (a .members) (n .0),
+          found-part s r 2 (a .dowel) (n .1),
+          found-part s r 3 (a .positions) (n .2),
+          found-part s r 4 (a .loads) (n .3),
+        )
+
+    pub positions-inside : p3 .start + p3 .bytes ≤ length s
+    positions-inside = rw (are .2) (stretch s (a .right) 3 .inside)
+
+    -- `part` is the stretch of the positions, and q whether its length is right
+    module _ {part : List ℕ} {q : Bool} (f : part ≡ take (p3 .bytes) (drop (p3 .start) s)) (g : q ≡ positionsLength part) where
+      abbrev sized : Bool
+      sized = eqb (p1 .bytes) 42 && eqb (p2 .bytes) 3 && q && eqb (p4 .bytes) 11
+
+      six : refusal6 s ≡ not sized
+      unfolding refusal6 partAt partOfPair
+      six =
+          let r = a .right in
+          rw (g, f, are .0, are .1, are .2, are .3) (simp (part-length s r 1, part-length s r 2, part-length s r 4))
+
+      pub wrong-length : not sized ≡ true → LayoutRefused 6 ≡ partsAnswer
+      unfolding firstHolding layout
+      wrong-length l = simp (a .right, five ∙ k, six ∙ l)
+
+      pub right-lengths : not sized ≡ false → Laid (record { members = p1; dowel = p2; positions = p3; loads = p4 }) ≡ partsAnswer
+      unfolding firstHolding layout partsOf
+      right-lengths l = simp (a .right, five ∙ k, six ∙ l) (simp (are .0, are .1, are .2, are .3))
 
 -- ---- refusals 1 to 6, one after the other
 module _ (s : List ℕ) where
   abbrev answer : Layout
   answer = layout (firstHolding 1 (scriptTests s)) (partsOf s)
-
-  abbrev pub HeaderRight : Type 0
-  HeaderRight = firstHolding 1 (scriptTests s) ≡ firstHolding 4 (pairTests s ++ refusal6 s ∷ [])
-
-  abbrev pub LengthsTested : Parts → Bool → Type 0
-  LengthsTested p q =
-      firstHolding 1 (scriptTests s)
-      ≡ firstHolding 6 (not (eqb (p .members .bytes) 42 && eqb (p .dowel .bytes) 3 && q && eqb (p .loads .bytes) 11) ∷ [])
 
   pub too-short : length s < 20 → LayoutRefused 1 ≡ answer
   unfolding refusal1 firstHolding layout
@@ -294,54 +348,9 @@ module _ (s : List ℕ) where
       unfolding refusal1 refusal2 refusal3 firstHolding layout
       wrong-count h = simp (le-ltb (length s) 20 l, equal v v1, unequal w h)
 
-      pub header-right : m ≡ 4 → HeaderRight
+      pub header-right : m ≡ 4 → layout (firstHolding 4 (partTests s)) (partsOf s) ≡ answer
       unfolding refusal1 refusal2 refusal3 firstHolding
       header-right h = simp (le-ltb (length s) 20 l, equal v v1, equal w h)
-
-  stretch : (kind : ℕ) → refusal4 s ≡ false → Stretch s kind (partAt s (pairOfKind s kind))
-  unfolding refusal4 partAt partOfPair
-  stretch kind h = record {
-    inside = pair-in (λ k. pairSum s k ≤ length s) (chain-inside s (not-false (chained Two s 4 20 4) h)) s kind;
-    bytes = refl;
-  }
-
-  part-length : (kind : ℕ) → refusal4 s ≡ false → length (partOfKind s kind) ≡ pairLength s (pairOfKind s kind)
-  unfolding partOfPair partAt
-  part-length kind h =
-      let i = stretch kind h .inside in
-      length-take-le _ (drop (pairOffset s (pairOfKind s kind)) s) (rw length-drop (omega arith))
-
-  module _ {r : Layout} (e : r ≡ layout (firstHolding 4 (pairTests s)) (partsOf s)) where
-    pub parts-refused : HeaderRight → {k : ℕ} → r ≡ LayoutRefused k → r ≡ answer
-    parts-refused a h =
-        e ∙ sym (ap (λ (n : ℕ). layout n (partsOf s)) (a ∙ first-kept 3 (pairTests s) (refusal6 s ∷ []) (layout-refused _ _ e h)))
-
-    module _ {p : Parts} (h : r ≡ Laid p) where
-      same : p ≡ partsOf s
-      same = laid-parts _ _ e h
-
-      chain-right : refusal4 s ≡ false
-      chain-right = none-holds 3 (pairTests s) (laid-number _ _ e h) .none 0
-
-      pub positions-inside : p .positions .start + p .positions .bytes ≤ length s
-      unfolding partsOf
-      positions-inside = rw same (stretch 3 chain-right .inside)
-
-      -- `part` is the stretch of the positions, and q whether its length is right
-      pub lengths-tested : HeaderRight → {part : List ℕ} {q : Bool} → part ≡ take (p .positions .bytes) (drop (p .positions .start) s)
-          → q ≡ positionsLength part → LengthsTested p q
-      unfolding refusal6 partsOf partAt partOfPair
-      lengths-tested a f g =
-          a ∙ first-zero 3 6 (pairTests s) (refusal6 s ∷ []) (laid-number _ _ e h) refl
-          ∙ rw (g, f, same) (simp (part-length 1 chain-right, part-length 2 chain-right, part-length 4 chain-right))
-
-      pub right-lengths : {b : Bool} → b ≡ false → firstHolding 1 (scriptTests s) ≡ firstHolding 6 (b ∷ []) → Laid p ≡ answer
-      unfolding firstHolding layout
-      right-lengths k a = rw (a, k) (ap Laid same)
-
-  pub wrong-length : {b : Bool} → b ≡ true → firstHolding 1 (scriptTests s) ≡ firstHolding 6 (b ∷ []) → LayoutRefused 6 ≡ answer
-  unfolding firstHolding layout
-  wrong-length k a = rw (a, k)
 
   -- what is left for the reader of values
   pub laid-out : {r : Layout} {p : Parts} → r ≡ answer → r ≡ Laid p → LaidOut s p
@@ -356,10 +365,10 @@ module _ (s : List ℕ) where
       let t = simp and-eq-true-iff at six in
       rw (laid-parts _ _ e h)
       (record {
-        members = stretch 1 four;
-        dowel = stretch 2 four;
-        positions = stretch 3 four;
-        loads = stretch 4 four;
+        members = stretch s four 1;
+        dowel = stretch s four 2;
+        positions = stretch s four 3;
+        loads = stretch s four 4;
         members-length = eqb-true _ _ (t .0 .0 .0);
         dowel-length = eqb-true _ _ (t .0 .0 .1);
         positions-length = eqb-true _ _ (t .0 .1 .1);

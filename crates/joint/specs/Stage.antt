@@ -8,7 +8,7 @@ use lib.Dec.{eqb}
 use lib.ListN.{length, getD, take, drop}
 use Rattle.numbers.specs.Numbers.{u8At}
 use Rattle.joint.specs.Layout.{pairOffset, pairLength, pairSum, kindOfPair, pairOfKind, partOfKind}
-use Rattle.joint.specs.Refusal.{refusal4, refusal5, fieldsWithin, emptyOutlines, noForce}
+use Rattle.joint.specs.Refusal.{refusal4, refusal5, refusal6, fieldsWithin, emptyOutlines, noForce}
 use Rattle.joint.specs.declared.Values.{Values}
 use Rattle.joint.specs.declared.Stage.{Stage}
 use Rattle.joint.specs.declared.Stage.the-variants.{Passed, Refused}
@@ -37,8 +37,9 @@ partAt s k = record { start = pairOffset s k; bytes = pairLength s k }
 unfoldable pub found : List ℕ → ℕ → Part
 found s kind = cond (present s kind) (partAt s (pairOfKind s kind)) (record { start = 0; bytes = 0 })
 
-abbrev pub pairTests : List ℕ → List Bool
-pairTests s = refusal4 s ∷ refusal5 s ∷ []
+-- the tests that need more than the header
+abbrev pub partTests : List ℕ → List Bool
+partTests s = refusal4 s ∷ refusal5 s ∷ refusal6 s ∷ []
 
 unfoldable pub partsOf : List ℕ → Parts
 partsOf s = record {

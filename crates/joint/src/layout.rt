@@ -5,7 +5,7 @@ ghost use mathlib.Core.Path.{_≡_};
 ghost use Prim.Native.Nat.{_+_, _≤_};
 ghost use lib.ListN.{length, take, drop};
 ghost use Rattle.joint.specs.Refusal.{positionsLength, firstHolding, scriptTests};
-ghost use Rattle.joint.specs.Stage.{Bounded, found, pairTests, partsOf, layout, layoutNumber};
+ghost use Rattle.joint.specs.Stage.{Bounded, found, partTests, partsOf, layout, layoutNumber};
 
 // The version, where it stands and where the number of pairs does.
 const VERSION: u16 = 1;
@@ -13,6 +13,7 @@ const VERSION: u16 = 1;
 const VERSION_AT: usize = 0;
 
 const COUNT_AT: usize = 2;
+
 // How many pairs there are, where the first one stands and where the first part starts: right after the last pair.
 const PAIRS: usize = 4;
 
@@ -34,6 +35,7 @@ const MEMBERS_BYTES: usize = 42;
 const DOWEL_BYTES: usize = 3;
 
 const LOADS_BYTES: usize = 11;
+
 // Kind and N, and then x and y of each dowel.
 const POSITIONS_FRONT: usize = 2;
 
@@ -96,10 +98,19 @@ fn find_part(bytes: &[u8], bounds: [usize; PAIRS + 1], kind: u8) -> Part
     Part { start: 0, bytes: 0 }
 }
 
-// Refusals 4 and 5: where four parts have four kinds, each kind is there once.
+fn positions_length(part: &[u8]) -> bool
+    ensures { λ r. ⌜ r ≡ positionsLength (now (part .entry)) ⌝ }
+{
+    if part.len() < POSITIONS_FRONT {
+        return false;
+    }
+    part.len() == POSITIONS_FRONT + POSITION_BYTES * (part[1] as usize)
+}
+
+// Refusals 4 to 6: where four parts have four kinds, each kind is there once.
 fn find_parts(bytes: &[u8]) -> Layout
     requires { ⌜ 20 ≤ length (now bytes) ⌝ }
-    ensures { λ r. ⌜ r ≡ layout (firstHolding 4 (pairTests (now (bytes .entry)))) (partsOf (now (bytes .entry))) ⌝ }
+    ensures { λ r. ⌜ r ≡ layout (firstHolding 4 (partTests (now (bytes .entry)))) (partsOf (now (bytes .entry))) ⌝ }
 {
     let mut bounds = [0usize; PAIRS + 1];
     if !chain::read(
@@ -119,21 +130,19 @@ fn find_parts(bytes: &[u8]) -> Layout
     if (members.bytes == 0) | (dowel.bytes == 0) | (positions.bytes == 0) | (loads.bytes == 0) {
         return Layout::Refused(5);
     }
+    let sized = (members.bytes == MEMBERS_BYTES)
+        & (dowel.bytes == DOWEL_BYTES)
+        & positions_length(stretch(bytes, positions))
+        & (loads.bytes == LOADS_BYTES);
+    if !sized {
+        return Layout::Refused(6);
+    }
     Layout::Laid(Parts {
         members,
         dowel,
         positions,
         loads,
     })
-}
-
-fn positions_length(part: &[u8]) -> bool
-    ensures { λ r. ⌜ r ≡ positionsLength (now (part .entry)) ⌝ }
-{
-    if part.len() < POSITIONS_FRONT {
-        return false;
-    }
-    part.len() == POSITIONS_FRONT + POSITION_BYTES * (part[1] as usize)
 }
 
 // Refusals 1 to 6.
@@ -151,17 +160,5 @@ pub(crate) fn read_layout(bytes: &[u8]) -> Layout
     if count != PAIRS {
         return Layout::Refused(3);
     }
-    let found = find_parts(bytes);
-    let Layout::Laid(parts) = found else {
-        return found;
-    };
-    let positions = parts.positions;
-    let sized = (parts.members.bytes == MEMBERS_BYTES)
-        & (parts.dowel.bytes == DOWEL_BYTES)
-        & positions_length(stretch(bytes, positions))
-        & (parts.loads.bytes == LOADS_BYTES);
-    if !sized {
-        return Layout::Refused(6);
-    }
-    found
+    find_parts(bytes)
 }

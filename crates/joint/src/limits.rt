@@ -31,10 +31,12 @@ const ALONG_Y: u8 = 1;
 const LEAST_PLANES: u8 = 1;
 
 const MOST_PLANES: u8 = 2;
+
 // In tenths of a millimetre.
 const LEAST_THICKNESS: u16 = 200;
 
 const MOST_THICKNESS: u16 = 4000;
+
 // In millimetres.
 const LEAST_DIAMETER: u8 = 6;
 

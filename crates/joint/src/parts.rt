@@ -23,6 +23,7 @@ ghost use Rattle.joint.specs.Stage.{LaidOut};
 const MEMBER_1: usize = 2;
 
 const MEMBER_2: usize = 22;
+
 // Where the first dowel's x and y stand in their part, after kind and N.
 const FIRST_X: usize = 2;
 
@@ -47,6 +48,7 @@ fn member_at(part: &[u8], i: usize) -> Member
     }
 }
 
+// Kind, shear planes, then both members.
 fn members_in(part: &[u8]) -> Members
     requires { ⌜ length (now part) ≡ 42 ⌝ }
     ensures { λ r. ⌜ r ≡ membersIn (now (part .entry)) ⌝ }
@@ -58,6 +60,7 @@ fn members_in(part: &[u8]) -> Members
     }
 }
 
+// Kind, diameter, steel.
 fn dowel_in(part: &[u8]) -> Dowel
     requires { ⌜ length (now part) ≡ 3 ⌝ }
     ensures { λ r. ⌜ r ≡ dowelIn (now (part .entry)) ⌝ }
@@ -75,6 +78,7 @@ fn places(n: usize) -> usize
     if n < MOST_DOWELS { n } else { MOST_DOWELS }
 }
 
+// Every eighth byte from `at` on starts a dowel's number.
 fn column_of(part: &[u8], at: usize, n: usize) -> [i32; MOST_DOWELS]
     requires { ⌜ (at ≤ 6) × (2 + 8 * n ≤ length (now part)) ⌝ }
     ensures { λ r. ⌜ r ≡ column (now (part .entry)) at n ⌝ }
@@ -90,6 +94,7 @@ fn column_of(part: &[u8], at: usize, n: usize) -> [i32; MOST_DOWELS]
     l
 }
 
+// Kind, N, then x and y of each dowel.
 fn positions_in(part: &[u8]) -> Positions
     requires { ⌜ length (now part) ≡ 2 + 8 * u8At (now part) 1 ⌝ }
     ensures { λ r. ⌜ r ≡ positionsIn (now (part .entry)) ⌝ }
@@ -100,6 +105,7 @@ fn positions_in(part: &[u8]) -> Positions
     Positions { n, x, y }
 }
 
+// Kind, service class, duration, then fx and fy.
 fn loads_in(part: &[u8]) -> Loads
     requires { ⌜ length (now part) ≡ 11 ⌝ }
     ensures { λ r. ⌜ r ≡ loadsIn (now (part .entry)) ⌝ }
