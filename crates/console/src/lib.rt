@@ -5,7 +5,7 @@ use libc::STDOUT_FILENO;
 ghost use mathlib.Core.Path.{_≡_};
 ghost use Prim.Native.Nat.{_≤_};
 ghost use Rattle.joint.specs.Claim.{InputJudged};
-ghost use Rattle.joint.specs.Workings.{inputReport};
+ghost use Rattle.joint.specs.Returned.{inputReport};
 
 // How many bytes were read into the buffer, whether more came, and the report on them.
 pub struct Judged {

@@ -3,18 +3,8 @@ use mathlib.Core.Path.{_≡_, refl, sym, ap, ap₂, _∙_}
 use mathlib.Core.Bool.{true, false, true≢false}
 use mathlib.Core.List.{List}
 use Prim.Native.Nat.{ℕ, zero, suc, _+_, _*_, _^_, _≤_, _<_}
-use native.Mathlib.Nat.{
-  mul-le-mul-left,
-  mul-le-mul-right,
-  le-refl,
-  le-of-eq,
-  le-trans,
-  lt-of-not-le,
-  pow-suc,
-  pow-zero,
-  le-of-mul-le-mul-left,
-  one-le-pow,
-}
+use native.Mathlib.Nat.{mul-le-mul-left, mul-le-mul-right, le-refl, le-of-eq, le-trans, lt-of-not-le, pow-suc, pow-zero, le-of-mul-le-mul-left}
+use native.Mathlib.Nat.{one-le-pow}
 use native.Mathlib.Decide.{decLt}
 use native.Mathlib.Omega.{arith}
 use borrow.Author.Tests.{le-leb, leb-true}

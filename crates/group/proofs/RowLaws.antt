@@ -9,10 +9,12 @@ use native.Mathlib.Omega.{arith}
 use borrow.Author.Tests.{eqb-true, eq-eqb, ne-eqb, not-true}
 use lib.Dec.{eqb}
 use lib.IntN.{ℤ, natAbs, _-ℤ_}
+use Rattle.spacing.specs.declared.view.Piece.{Piece}
 use Rattle.spacing.specs.Spacing.{place, distance}
 use Rattle.spacing.proofs.Integers.{same-place, no-distance}
 use Rattle.group.specs.Rows.{sameRow, countTo, rowNumber, LeastDistance}
-use Rattle.group.specs.Share.{leastTo, other, nearest}
+use Rattle.group.specs.declared.member.Taken.{Taken}
+use Rattle.group.specs.Share.{leastTo, other, nearest, TakenFrom}
 use Rattle.group.proofs.Counting.{Another, another, count-some, count-two, least-below, least-attained}
 use Rattle.group.proofs.Shares.{both-true}
 
@@ -46,6 +48,12 @@ pub other-of : (b : List ℤ) (i j : ℕ) → other b i j ≡ true → Other b i
 other-of b i j h =
     let p = both-true (sameRow b i j) (not (eqb i j)) h in
     record { same = p .0; differ = other-differs i j (p .1) }
+
+-- a member takes what another with the same grain takes
+pub same-grain :
+    (m₁ m₂ : Piece) (d : ℕ) (fx fy : ℤ) (x y : List ℤ) (count : ℕ) (t : Taken) → m₁ .grain ≡ m₂ .grain →
+    TakenFrom m₁ d fx fy x y count t → TakenFrom m₂ d fx fy x y count t
+same-grain m₁ m₂ d fx fy x y count r e t = record { force = rw e at (t .force); share = rw e at (t .share) }
 
 module _ (a b : List ℤ) (count : ℕ) where
   -- two different dowels of a row lie no closer than the one is to its nearest

@@ -2,22 +2,8 @@
 use mathlib.Core.Path.{_≡_, refl, sym, ap, _∙_}
 use mathlib.Core.Bool.{Bool, true, false, cond, _&&_, true≢false, false≢true}
 use Prim.Native.Nat.{ℕ, zero, suc, _+_, _*_, _^_, _≤_, _<_}
-use native.Mathlib.Nat.{
-  mul-le-mul,
-  mul-le-mul-left,
-  mul-le-mul-right,
-  le-trans,
-  lt-of-lt-of-le,
-  le-of-lt,
-  lt-of-not-le,
-  pow-le-pow-left,
-  pow-suc,
-  pow-zero,
-  le-refl,
-  le-of-mul-le-mul-right,
-  mul-pos,
-  mul-comm,
-}
+use native.Mathlib.Nat.{mul-le-mul, mul-le-mul-left, mul-le-mul-right, le-trans, lt-of-lt-of-le, le-of-lt, lt-of-not-le, pow-le-pow-left, pow-suc}
+use native.Mathlib.Nat.{pow-zero, le-refl, le-of-mul-le-mul-right, mul-pos, mul-comm}
 use native.Mathlib.Decide.{decLe, decLt}
 use native.Mathlib.Numerals.{add-one}
 use native.Mathlib.Omega.{arith}

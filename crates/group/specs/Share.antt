@@ -4,10 +4,13 @@ use mathlib.Core.Path.{_≡_}
 use mathlib.Core.Bool.{Bool, true, cond, not, _&&_}
 use mathlib.Core.List.{List}
 use lib.Dec.{leb, eqb}
-use lib.IntN.{ℤ}
+use lib.IntN.{ℤ, natAbs}
 use Rattle.strength.specs.Roots.{FactorWithin}
-use Rattle.spacing.specs.Spacing.{distance}
+use Rattle.spacing.specs.declared.view.Piece.{Piece}
+use Rattle.spacing.specs.Spacing.{along, across, distance}
 use Rattle.group.specs.declared.rows.Row.{Row}
+use Rattle.group.specs.declared.member.Taken.{Taken}
+use Rattle.group.specs.declared.member.Both.{Both}
 use Rattle.group.specs.Rows.{sameRow, rowNumber, IsRow, MemberBracket}
 
 -- ---- the distance in a row
@@ -58,6 +61,16 @@ memberShare d a b count = greatestTo (dowelsPass d a b count count) 10000
 pub record MemberShared (d : ℕ) (a b : List ℤ) (count e : ℕ) : Type 0 where
   pub bracket : MemberBracket (IsRow a b count) d e
   pub is : e ≡ memberShare d a b count
+
+-- ---- what the use takes of a member of a record: the force along its grain, and the share of its rows
+pub record TakenFrom (m : Piece) (d : ℕ) (fx fy : ℤ) (x y : List ℤ) (count : ℕ) (t : Taken) : Type 0 where
+  pub force : t .along ≡ natAbs (along (m .grain) fx fy)
+  pub share : MemberShared d (along (m .grain) x y) (across (m .grain) x y) count (t .share)
+
+pub record BothTaken (m₁ m₂ : Piece) (d : ℕ) (fx fy : ℤ) (x y : List ℤ) (count : ℕ) (b : Both) : Type 0 where
+  pub member1 : TakenFrom m₁ d fx fy x y count (b .member1)
+  pub member2 : TakenFrom m₂ d fx fy x y count (b .member2)
+  pub share : b .share ≡ min (b .member1 .share) (b .member2 .share)
 
 -- ---- what the parts answer
 -- the row of a dowel, with the dowel nearest to it

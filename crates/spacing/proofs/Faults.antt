@@ -15,19 +15,7 @@ use Rattle.spacing.specs.declared.view.Frame.{Frame}
 use Rattle.spacing.specs.declared.view.View.{View}
 use Rattle.spacing.specs.declared.verdict.Fault.{Fault}
 use Rattle.spacing.specs.Search.{firstFrom, partner, firstPair}
-use Rattle.spacing.specs.Spacing.{
-  along,
-  across,
-  forceIn,
-  viewOf,
-  square,
-  squaredForce,
-  place,
-  distance,
-  tooClose,
-  endTooNear,
-  Components,
-}
+use Rattle.spacing.specs.Spacing.{along, across, forceIn, viewOf, square, squaredForce, place, distance, tooClose, endTooNear, Components}
 use Rattle.spacing.specs.Limits.{PairLimit, EndLimit, closeBy, outside}
 use Rattle.spacing.specs.Verdict.{fault, oneDowel, pairFault, endFault, edgeFault, orElse}
 use Rattle.spacing.proofs.Integers.{natAbs-neg}
@@ -98,6 +86,12 @@ the-second r f s g e h p = rw (← e, eq-eqb (r .number) 0 h) p
 force-size : (which : Which) (z : ℤ) → natAbs (forceIn which z) ≡ natAbs z
 force-size Member1 z = natAbs-neg z
 force-size Member2 z = refl
+
+-- the size of the force along is that of the record's force along the grain
+pub view-force :
+    (which : Which) (m : Piece) (fx fy : ℤ) (x y : List ℤ) (v : View) → v ≡ viewOf which m fx fy x y →
+    natAbs (v .frame .force) ≡ natAbs (along (m .grain) fx fy)
+view-force which m fx fy x y v e = ap (λ (w : View). natAbs (w .frame .force)) e ∙ force-size which (along (m .grain) fx fy)
 
 turned-components : (d : ℕ) (b : Bool) (fx fy : ℤ) → Components d fx fy → Components d (cond b fx fy) (cond b fy fx)
 turned-components d true fx fy h = h

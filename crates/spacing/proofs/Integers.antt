@@ -109,6 +109,10 @@ opposite-fits z h = record { sfits = rw (opposite z) (omega (arith, neg-mag z)) 
 pub small-fits : (z : ℤ) → natAbs z ≤ 1000000 → SFits w32 z
 small-fits z h = record { sfits = omega (arith, mag-natAbs z) }
 
+-- and reads as it was
+pub small-read : (z : ℤ) → natAbs z ≤ 1000000 → toZ w32 (ofZ w32 z) ≡ z
+small-read z h = toZ-ofZ (small-fits z h)
+
 -- ---- two places at no distance are one
 none-is-zero : (z : ℤ) → natAbs z ≡ 0 → z ≡ pos 0
 none-is-zero (pos n) h = ap pos h

@@ -2,17 +2,7 @@
 use mathlib.Core.Path.{_≡_, refl, sym, ap, _∙_}
 use mathlib.Core.Bool.{true, false, not, _&&_, and-false}
 use Prim.Native.Nat.{ℕ, zero, suc, _+_, _-_, _*_, _/_, _^_, _≤_, _<_, max}
-use native.Mathlib.Nat.{
-  lt-of-not-le,
-  not-le-of-lt,
-  mul-le-mul,
-  mul-le-mul-right,
-  mul-le-mul-left,
-  div-add-mod',
-  mod-lt,
-  div-le-self,
-  le-trans,
-}
+use native.Mathlib.Nat.{lt-of-not-le, not-le-of-lt, mul-le-mul, mul-le-mul-right, mul-le-mul-left, div-add-mod', mod-lt, div-le-self, le-trans}
 use native.Mathlib.Decide.{decLe}
 use native.Mathlib.Omega.{arith}
 use borrow.Author.Tests.{le-leb, lt-leb, le-ltb, lt-ltb, leb-true}

@@ -70,23 +70,6 @@ returns c =
 pub row-of-spec : {M : Type 1} → statement M
 row-of-spec =
     tie.close
-    (tie.spec
-    Inv-loop
-    μ-loop
-    (λ c. (omega arith, count-none _, least-none _ _ _))
-    (λ c. omega arith)
-    (λ c. omega arith)
-    (λ c. omega arith)
-    (λ c. omega arith)
-    (λ c κs. tt)
-    (λ c. omega arith)
-    (λ c. omega arith)
-    (λ c. omega arith)
-    (λ c. omega arith)
-    (λ c κs. tt)
-    counted-requires
-    (λ c κs. tt)
-    (λ c. omega arith)
-    (λ c. omega arith)
-    loop-again
-    returns)
+    (tie.spec Inv-loop μ-loop (λ c. (omega arith, count-none _, least-none _ _ _)) (λ c. omega arith) (λ c. omega arith)
+    (λ c. omega arith) (λ c. omega arith) (λ c κs. tt) (λ c. omega arith) (λ c. omega arith) (λ c. omega arith)
+    (λ c. omega arith) (λ c κs. tt) counted-requires (λ c κs. tt) (λ c. omega arith) (λ c. omega arith) loop-again returns)

@@ -40,15 +40,6 @@ returns-2 c =
 pub row-share-spec : {M : Type 1} → statement M
 row-share-spec =
     tie.close
-    (tie.spec
-    (λ c. search needs)
-    (λ c κs. search needs)
-    (λ c κs. search needs)
-    (λ c. search needs)
-    (λ c. search needs)
-    (λ c κs. let q : tie.After-product = search in (lit≤ tt, within q))
-    returns
-    (λ c. search needs)
-    (λ c. search needs)
-    greatest-between-requires
-    returns-2)
+    (tie.spec (λ c. search needs) (λ c κs. search needs) (λ c κs. search needs) (λ c. search needs) (λ c. search needs)
+    (λ c κs. let q : tie.After-product = search in (lit≤ tt, within q)) returns (λ c. search needs) (λ c. search needs)
+    greatest-between-requires returns-2)

@@ -67,14 +67,5 @@ returns c =
 pub share-in-spec : {M : Type 1} → statement M
 share-in-spec =
     tie.close
-    (tie.spec
-    Inv-loop
-    μ-loop
-    loop-holds
-    (λ c κs. search needs)
-    deciding-requires
-    (λ c. search needs)
-    (λ c. omega arith)
-    loop-again
-    (λ c κs. (c .before .before .pre .thick, c .before .loop .inv .1))
-    returns)
+    (tie.spec Inv-loop μ-loop loop-holds (λ c κs. search needs) deciding-requires (λ c. search needs) (λ c. omega arith)
+    loop-again (λ c κs. (c .before .before .pre .thick, c .before .loop .inv .1)) returns)

@@ -63,22 +63,6 @@ returns-2 c =
 pub partner-spec : {M : Type 1} → statement M
 partner-spec =
     tie.close
-    (tie.spec
-    Inv-loop
-    μ-loop
-    (λ c. omega arith)
-    loop-holds
-    (λ c. omega arith)
-    (λ c. omega arith)
-    (λ c. omega arith)
-    (λ c. omega arith)
-    (λ c. omega arith)
-    (λ c. omega arith)
-    (λ c. omega arith)
-    (λ c. omega arith)
-    (λ c κs. tt)
-    returns
-    (λ c. omega arith)
-    (λ c. omega arith)
-    loop-again
-    returns-2)
+    (tie.spec Inv-loop μ-loop (λ c. omega arith) loop-holds (λ c. omega arith) (λ c. omega arith) (λ c. omega arith)
+    (λ c. omega arith) (λ c. omega arith) (λ c. omega arith) (λ c. omega arith) (λ c. omega arith) (λ c κs. tt) returns
+    (λ c. omega arith) (λ c. omega arith) loop-again returns-2)

@@ -3,14 +3,7 @@ use mathlib.Core.Path.{_≡_, ap, _∙_}
 use mir.Syntax.{w64}
 use mir.Val.{toZ, ofZ}
 use lib.IntN.{natAbs, _-ℤ_}
-use Rattle.spacing.proofs.Integers.{
-  difference-fits,
-  difference-read,
-  natAbs-fits,
-  not-negative,
-  turned-not-negative,
-  distance-turned,
-}
+use Rattle.spacing.proofs.Integers.{difference-fits, difference-read, natAbs-fits, not-negative, turned-not-negative, distance-turned}
 use Rattle.spacing.proofs.signed.apart.Statement.{statement}
 use Rattle.spacing.proofs.signed.apart.Tie as tie
 

@@ -1,13 +1,6 @@
 -- A negative difference reaches nothing.
 use lib.IntN.{_-ℤ_}
-use Rattle.spacing.proofs.Integers.{
-  difference-fits,
-  difference-read,
-  natAbs-fits,
-  not-negative,
-  reaches-not-negative,
-  reaches-negative,
-}
+use Rattle.spacing.proofs.Integers.{difference-fits, difference-read, natAbs-fits, not-negative, reaches-not-negative, reaches-negative}
 use Rattle.spacing.proofs.signed.reaches.Statement.{statement}
 use Rattle.spacing.proofs.signed.reaches.Tie as tie
 

@@ -3,7 +3,7 @@ use borrow.Author.Needs.{needs}
 use mir.Syntax.{w32}
 use mir.Val.{SFits}
 use mir.Facts.{toZ-ofZ}
-use Rattle.spacing.proofs.Integers.{small-fits}
+use Rattle.spacing.proofs.Integers.{small-read}
 use Rattle.spacing.proofs.Faults.{end-found}
 use Rattle.spacing.proofs.verdict.end_fault.Statement.{statement}
 use Rattle.spacing.proofs.verdict.end_fault.Tie as tie
@@ -19,8 +19,8 @@ returns c =
     let negative : tie.After-negative = search in
     let k : tie.Start = search in
     let v = k .args .v in
-    let f = toZ-ofZ (small-fits (v .force) (k .pre .force .x-small)) in
-    let g = toZ-ofZ (small-fits (v .sideways) (k .pre .force .y-small)) in
+    let f = small-read (v .force) (k .pre .force .x-small) in
+    let g = small-read (v .sideways) (k .pre .force .y-small) in
     let ends = fits k in
     let low = rw (f, g, rw f at (negative .negative .ensures)) at (below .from-end .ensures) in
     let high = rw (f, g, rw f at (positive .positive .ensures)) at (above .from-end2 .ensures) in
@@ -30,11 +30,5 @@ returns c =
 pub end-fault-spec : {M : Type 1} → statement M
 end-fault-spec =
     tie.close
-    (tie.spec
-    (λ c κs. search needs)
-    (λ c κs. search needs)
-    (λ c κs. search needs)
-    (λ c κs. search needs)
-    (λ c κs. let k : tie.Start = search in k .pre .most)
-    (λ c κs. let k : tie.Start = search in k .pre .most)
-    returns)
+    (tie.spec (λ c κs. search needs) (λ c κs. search needs) (λ c κs. search needs) (λ c κs. search needs)
+    (λ c κs. let k : tie.Start = search in k .pre .most) (λ c κs. let k : tie.Start = search in k .pre .most) returns)

@@ -2,10 +2,9 @@
 use denote.Ref.{now}
 use Prim.Native.Nat.{_*_}
 use mathlib.Core.Path.{_≡_, _∙_}
-use mir.Facts.{toZ-ofZ}
 use Rattle.spacing.specs.Spacing.{tooClose}
 use Rattle.spacing.specs.Limits.{closeBy}
-use Rattle.spacing.proofs.Integers.{small-fits}
+use Rattle.spacing.proofs.Integers.{small-read}
 use Rattle.spacing.proofs.Search.{partner-bound}
 use Rattle.spacing.proofs.Faults.{close-same, pair-found, no-pair}
 use native.Mathlib.Omega.{arith}
@@ -19,9 +18,9 @@ tested :
     closeBy (c .between-dowels .result) (30 * k .d) (now (k .a)) (now (k .b)) ≡ tooClose (k .v) (k .d) (now (k .a)) (now (k .b))
 tested c =
     let k : tie.Start = search in
-    let f = small-fits (k .args .v .force) (k .pre .force .x-small) in
-    let g = small-fits (k .args .v .sideways) (k .pre .force .y-small) in
-    let l = simp (toZ-ofZ f, toZ-ofZ g) at (c .between-dowels .ensures) in
+    let f = small-read (k .args .v .force) (k .pre .force .x-small) in
+    let g = small-read (k .args .v .sideways) (k .pre .force .y-small) in
+    let l = simp (f, g) at (c .between-dowels .ensures) in
     close-same (k .args .v) (k .args .d) _ (now (k .args .a)) (now (k .args .b)) l
 
 returns : tie.Need-returns
@@ -44,15 +43,5 @@ returns-2 c =
 pub pair-fault-spec : {M : Type 1} → statement M
 pair-fault-spec =
     tie.close
-    (tie.spec
-    (λ c κs. search needs)
-    (λ c. search needs)
-    (λ c κs. search needs)
-    (λ c κs. search needs)
-    returns
-    (λ c κs. search needs)
-    (λ c. search needs)
-    (λ c. search needs)
-    add-t14
-    cast-t15
-    returns-2)
+    (tie.spec (λ c κs. search needs) (λ c. search needs) (λ c κs. search needs) (λ c κs. search needs) returns
+    (λ c κs. search needs) (λ c. search needs) (λ c. search needs) add-t14 cast-t15 returns-2)
