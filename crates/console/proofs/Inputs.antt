@@ -9,14 +9,14 @@ use native.Mathlib.Omega.{arith}
 use native.Mathlib.Nat.{le-trans, le-of-eq, le-refl}
 use borrow.Rule.Slice.PartMut.{midOf, mid-len}
 use Rattle.joint.specs.declared.report.Report.{Report}
-use Rattle.joint.specs.Workings.{unanswered, reportOf}
+use Rattle.joint.specs.Returned.{unanswered, reportOf}
 use Rattle.joint.proofs.Claims.{judged}
 use Rattle.spacing.specs.Verdict.{fault}
 use Rattle.line.specs.Line.{Lined}
 use Rattle.console.specs.declared.Came.{Came}
 use Rattle.console.specs.declared.Came.the-variants.{Bytes}
 use Rattle.console.specs.declared.Reply.{Reply}
-use Rattle.console.specs.Input.{bytesOf, failed, unread, Bare, InputJudged, Reported, lineWhen, Told, Answered, inputReport}
+use Rattle.console.specs.Input.{bytesOf, failed, unread, Bare, InputJudged, Reported, lineWhen, Told, Answered, inputReport, InputReported}
 
 pub bare : (number : ℕ) (r : Report) → r ≡ unanswered (fault number 0 0 0) → Bare number r
 unfolding unanswered
@@ -34,7 +34,7 @@ bare number r e =
 pub input-says : (buffer : List ℕ) (count : ℕ) (more : Bool) (r : Report) → r ≡ inputReport buffer count more → InputJudged buffer count more r
 unfolding inputReport
 input-says buffer count true r e = bare 4 r e
-input-says buffer count false r e = judged e .0
+input-says buffer count false r e = judged e .claim
 
 -- which report is made, by whether more came
 pub input-long : (buffer : List ℕ) (count : ℕ) (more : Bool) (r : Report) → more ≡ true → r ≡ unanswered (fault 4 0 0 0)
@@ -48,8 +48,8 @@ unfolding inputReport
 input-judged buffer count more r m e = e ∙ ap (λ (b : Bool). cond b (unanswered (fault 4 0 0 0)) (reportOf (take count buffer))) (sym m)
 
 pub both : (buffer : List ℕ) (count : ℕ) (more : Bool) (r : Report) → r ≡ inputReport buffer count more
-    → InputJudged buffer count more r × (r ≡ inputReport buffer count more)
-both buffer count more r e = (input-says buffer count more r e, e)
+    → InputReported buffer count more r
+both buffer count more r e = record { claim = input-says buffer count more r e; is = e }
 
 -- the bytes of a read into a part of a buffer from `done` on
 pub brought : (came : Came) (n done : ℕ) (buffer : List ℕ) → came ≡ Bytes n → bytesOf came ≤ length (midOf done (length buffer - done) buffer)

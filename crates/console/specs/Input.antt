@@ -7,7 +7,7 @@ use lib.ListN.{length, take}
 use lib.Dec.{eqb}
 use Rattle.joint.specs.declared.report.Report.{Report}
 use Rattle.joint.specs.Claim.{Judged, Unanswered}
-use Rattle.joint.specs.Workings.{unanswered, reportOf}
+use Rattle.joint.specs.Returned.{unanswered, reportOf}
 use Rattle.spacing.specs.Verdict.{fault}
 use Rattle.line.specs.Line.{lineOf}
 use Rattle.console.specs.declared.Came.{Came}
@@ -73,3 +73,8 @@ pub record Answered (buffer : List ℕ) (a : Reply) : Type 0 where
 -- ---- which report is made; nobody needs to believe this
 unfoldable pub inputReport : List ℕ → ℕ → Bool → Report
 inputReport buffer count more = cond more (unanswered (fault 4 0 0 0)) (reportOf (take count buffer))
+
+-- what the program's rule promises: the claim, and which report it makes
+pub record InputReported (buffer : List ℕ) (count : ℕ) (more : Bool) (r : Report) : Type 0 where
+  pub claim : InputJudged buffer count more r
+  pub is : r ≡ inputReport buffer count more

@@ -7,8 +7,8 @@ ghost use mathlib.Core.Path.{_≡_};
 ghost use Prim.Native.Nat.{_≤_};
 ghost use lib.ListN.{length};
 ghost use Rattle.spacing.specs.Verdict.{fault};
-ghost use Rattle.joint.specs.Workings.{unanswered};
-ghost use Rattle.console.specs.Input.{bytesOf, failed, InputJudged, inputReport, Told, Answered};
+ghost use Rattle.joint.specs.Returned.{unanswered};
+ghost use Rattle.console.specs.Input.{bytesOf, failed, InputReported, Told, Answered};
 
 // The most bytes that are read: more are refusal 4, before any other test.
 pub const MOST_BYTES: usize = 4096;
@@ -69,8 +69,7 @@ fn without_figures(number: u8) -> Report
 // The program's rule: the first `count` bytes of a buffer are judged, but where more came than the program reads, that is refusal 4
 // before any other test.
 pub fn judge_input(buffer: &[u8], count: usize, more: bool) -> Report
-    ensures { λ r. ⌜ InputJudged (now (buffer .entry)) count more r ⌝ }
-    ensures { λ r. ⌜ r ≡ inputReport (now (buffer .entry)) count more ⌝ }
+    ensures { λ r. ⌜ InputReported (now (buffer .entry)) count more r ⌝ }
 {
     if more {
         return without_figures(4);

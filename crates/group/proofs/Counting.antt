@@ -1,15 +1,15 @@
 -- Laws of counting a row and of the least distance in it.
--- Assumes nothing.
 use mathlib.Core.Path.{_≡_, refl, sym, ap, _∙_}
 use mathlib.Core.Bool.{Bool, true, false, cond, true≢false}
-use mathlib.Core.Logic.{_⊎_, inl, inr}
+use mathlib.Core.Logic.{_⊎_, inl, inr, ⊎-elim}
 use Prim.Native.Nat.{ℕ, zero, suc, _+_, _≤_, _<_, min}
 use native.Mathlib.Numerals.{add-one}
 use native.Mathlib.Nat.{lt-of-not-le}
 use native.Mathlib.Decide.{decLe, decLt, ℕ-discrete}
 use native.Mathlib.Omega.{arith}
 use Rattle.spacing.proofs.Search.{pick-at-most}
-use Rattle.group.specs.Rows.{countTo, leastTo}
+use Rattle.group.specs.Rows.{countTo}
+use Rattle.group.specs.Share.{leastTo}
 
 -- one more index
 pub count-on : (test : ℕ → Bool) (k : ℕ) → countTo test (k + 1) ≡ cond (test k) (countTo test k + 1) (countTo test k)
@@ -17,31 +17,25 @@ unfolding countTo
 count-on test k = ap (countTo test) (add-one k)
 
 pub least-on :
-    (test : ℕ → Bool) (f : ℕ → ℕ) (k : ℕ) →
-    leastTo test f (k + 1) ≡ cond (test k) (min (leastTo test f k) (f k)) (leastTo test f k)
+    (cap : ℕ) (test : ℕ → Bool) (f : ℕ → ℕ) (k : ℕ) →
+    leastTo cap test f (k + 1) ≡ cond (test k) (min (leastTo cap test f k) (f k)) (leastTo cap test f k)
 unfolding leastTo
-least-on test f k = ap (leastTo test f) (add-one k)
+least-on cap test f k = ap (leastTo cap test f) (add-one k)
 
 -- no index yet
 pub count-none : (test : ℕ → Bool) → 0 ≡ countTo test 0
 unfolding countTo
 count-none test = refl
 
-pub least-none : (test : ℕ → Bool) (f : ℕ → ℕ) → 200000 ≡ leastTo test f 0
+pub least-none : (cap : ℕ) (test : ℕ → Bool) (f : ℕ → ℕ) → cap ≡ leastTo cap test f 0
 unfolding leastTo
-least-none test f = refl
+least-none cap test f = refl
 
 pub count-bound : (test : ℕ → Bool) (k : ℕ) → countTo test k ≤ k
 unfolding countTo
 count-bound test zero = omega arith
 count-bound test (suc k) =
     let h = count-bound test k in pick-at-most (test k) _ _ _ (omega arith) (omega arith)
-
-pub least-bound : (test : ℕ → Bool) (f : ℕ → ℕ) (k : ℕ) → leastTo test f k ≤ 200000
-unfolding leastTo
-least-bound test f zero = omega arith
-least-bound test f (suc k) =
-    let h = least-bound test f k in pick-at-most (test k) _ _ _ (omega arith) h
 
 -- ---- the least of what passes
 below-by :
@@ -57,14 +51,6 @@ below-by test f k j l b t h q ih = go (decLt j k) b t
         let s : k ≡ j = omega (arith, lt-of-not-le p) in
         absurd (true≢false (sym h ∙ ap test (sym s) ∙ t))
 
--- it is at most each of them
-pub least-below : (test : ℕ → Bool) (f : ℕ → ℕ) (k j : ℕ) → j < k → test j ≡ true → leastTo test f k ≤ f j
-unfolding leastTo
-least-below test f zero j q h = absurd (omega arith)
-least-below test f (suc k) j q h =
-    below-by test f k j (leastTo test f k) (test k) refl h q (λ p. least-below test f k j p h)
-
--- it is one of them, or the farthest distance
 pub record One (test : ℕ → Bool) (f : ℕ → ℕ) (k l : ℕ) : Type 0 where
   pub one : ℕ
   pub within : one < k
@@ -74,38 +60,50 @@ pub record One (test : ℕ → Bool) (f : ℕ → ℕ) (k l : ℕ) : Type 0 wher
 more : {test : ℕ → Bool} {f : ℕ → ℕ} {k l : ℕ} → One test f k l → One test f (suc k) l
 more o = record { one = o .one; within = omega (arith, o .within); passes = o .passes; least = o .least }
 
-one-by :
-    (test : ℕ → Bool) (f : ℕ → ℕ) (k l : ℕ) (b : Bool) → test k ≡ b → (l ≡ 200000) ⊎ One test f k l →
-    (cond b (min l (f k)) l ≡ 200000) ⊎ One test f (suc k) (cond b (min l (f k)) l)
-one-by test f k l false t (inl e) = inl e
-one-by test f k l false t (inr o) = inr (more o)
-one-by test f k l true t s = go (decLe l (f k)) s
-  where
-    go : Dec (l ≤ f k) → (l ≡ 200000) ⊎ One test f k l → (min l (f k) ≡ 200000) ⊎ One test f (suc k) (min l (f k))
-    go (yes p) (inl e) = inl (omega arith)
-    go (yes p) (inr o) = let s : min l (f k) ≡ l = omega arith in inr (rw s (more o))
-    go (no p) s = inr (record { one = k; within = omega arith; passes = t; least = omega (arith, lt-of-not-le p) })
+module _ (cap : ℕ) (test : ℕ → Bool) (f : ℕ → ℕ) where
+  pub least-bound : (k : ℕ) → leastTo cap test f k ≤ cap
+  unfolding leastTo
+  least-bound zero = omega arith
+  least-bound (suc k) = let h = least-bound k in pick-at-most (test k) _ _ _ (omega arith) h
 
-least-one : (test : ℕ → Bool) (f : ℕ → ℕ) (k : ℕ) → (leastTo test f k ≡ 200000) ⊎ One test f k (leastTo test f k)
-unfolding leastTo
-least-one test f zero = inl refl
-least-one test f (suc k) = one-by test f k (leastTo test f k) (test k) refl (least-one test f k)
+  -- it is at most each of them
+  pub least-below : (k j : ℕ) → j < k → test j ≡ true → leastTo cap test f k ≤ f j
+  unfolding leastTo
+  least-below zero j q h = absurd (omega arith)
+  least-below (suc k) j q h =
+      below-by test f k j (leastTo cap test f k) (test k) refl h q (λ p. least-below k j p h)
 
--- where something passes and nothing is farther than the farthest, it is one of them
-pub least-is-one :
-    (test : ℕ → Bool) (f : ℕ → ℕ) (k i : ℕ) → i < k → test i ≡ true → f i ≤ 200000 → One test f k (leastTo test f k)
-least-is-one test f k i h t b = go (least-one test f k)
-  where
-    go : (leastTo test f k ≡ 200000) ⊎ One test f k (leastTo test f k) → One test f k (leastTo test f k)
-    go (inl e) = record { one = i; within = h; passes = t; least = omega (arith, least-below test f k i h t) }
-    go (inr o) = o
+  -- it is one of them, or the cap
+  one-by :
+      (k l : ℕ) (b : Bool) → test k ≡ b → (l ≡ cap) ⊎ One test f k l →
+      (cond b (min l (f k)) l ≡ cap) ⊎ One test f (suc k) (cond b (min l (f k)) l)
+  one-by k l false t (inl e) = inl e
+  one-by k l false t (inr o) = inr (more o)
+  one-by k l true t s = go (decLe l (f k)) s
+    where
+      go : Dec (l ≤ f k) → (l ≡ cap) ⊎ One test f k l → (min l (f k) ≡ cap) ⊎ One test f (suc k) (min l (f k))
+      go (yes p) (inl e) = inl (omega arith)
+      go (yes p) (inr o) = let s : min l (f k) ≡ l = omega arith in inr (rw s (more o))
+      go (no p) s = inr (record { one = k; within = omega arith; passes = t; least = omega (arith, lt-of-not-le p) })
 
--- where nothing passes it is the farthest distance
-pub least-nothing : (test : ℕ → Bool) (f : ℕ → ℕ) (k : ℕ) → ((j : ℕ) → j < k → test j ≡ false) → leastTo test f k ≡ 200000
-unfolding leastTo
-least-nothing test f zero h = refl
-least-nothing test f (suc k) h =
-    rw (h k (omega arith)) (least-nothing test f k (λ j q. h j (omega arith)))
+  least-one : (k : ℕ) → (leastTo cap test f k ≡ cap) ⊎ One test f k (leastTo cap test f k)
+  unfolding leastTo
+  least-one zero = inl refl
+  least-one (suc k) = one-by k (leastTo cap test f k) (test k) refl (least-one k)
+
+  -- below the cap it is one of them
+  pub least-attained : (k : ℕ) → leastTo cap test f k < cap → One test f k (leastTo cap test f k)
+  least-attained k h = ⊎-elim (λ e. absurd (omega arith)) (λ o. o) (least-one k)
+
+  -- it is at least what the cap and each of them are at least
+  pub least-from : (k m : ℕ) → m ≤ cap → ((j : ℕ) → j < k → test j ≡ true → m ≤ f j) → m ≤ leastTo cap test f k
+  unfolding leastTo
+  least-from zero m h g = h
+  least-from (suc k) m h g = go (test k) refl (least-from k m h (λ j q. g j (omega arith)))
+    where
+      go : (b : Bool) → test k ≡ b → m ≤ leastTo cap test f k → m ≤ cond b (min (leastTo cap test f k) (f k)) (leastTo cap test f k)
+      go true t r = omega (arith, g k (omega arith) t)
+      go false t r = r
 
 -- ---- how many pass
 count-grows : (test : ℕ → Bool) (k : ℕ) → countTo test k ≤ countTo test (suc k)

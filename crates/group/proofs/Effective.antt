@@ -1,5 +1,4 @@
 -- Laws of the tests 'not above' and 'not below' an effective number.
--- Assumes nothing.
 use Prim.Native.Nat.{ℕ, _*_, _^_, _≤_, _<_}
 use native.Mathlib.Nat.{mul-pos, mul-le-mul-right, le-of-lt, lt-of-not-le, le-of-mul-le-mul-left, one-le-pow}
 use lib.Dec.{lit<}

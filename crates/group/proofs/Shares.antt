@@ -1,30 +1,22 @@
 -- Laws of the share: which shares a row passes, and the greatest of them.
--- Assumes nothing.
 use mathlib.Core.Path.{_≡_, refl, sym, ap, _∙_}
-use mathlib.Core.Bool.{Bool, true, false, cond, true≢false}
+use mathlib.Core.Bool.{Bool, true, false, cond, _&&_, true≢false, false≢true}
 use Prim.Native.Nat.{ℕ, zero, suc, _+_, _*_, _^_, _≤_, _<_}
-use native.Mathlib.Nat.{mul-le-mul, mul-le-mul-left, mul-le-mul-right, le-trans, lt-of-lt-of-le, le-of-lt, lt-of-not-le, pow-le-pow-left, pow-suc, pow-zero, le-refl, le-of-mul-le-mul-right, mul-pos, mul-comm}
-use native.Mathlib.Decide.{decLe}
+use native.Mathlib.Nat.{mul-le-mul, mul-le-mul-left, mul-le-mul-right, le-trans, lt-of-lt-of-le, le-of-lt, lt-of-not-le, pow-le-pow-left, pow-suc}
+use native.Mathlib.Nat.{pow-zero, le-refl, le-of-mul-le-mul-right, mul-pos, mul-comm}
+use native.Mathlib.Decide.{decLe, decLt}
+use native.Mathlib.Numerals.{add-one}
 use native.Mathlib.Omega.{arith}
 use borrow.Author.Tests.{le-leb, lt-leb, leb-true}
-use lib.Dec.{leb}
-use lib.IntN.{ℤ}
-use mathlib.Core.List.{List}
-use native.Mathlib.Numerals.{add-one}
+use lib.Dec.{leb, lit≤}
 use Rattle.wide.proofs.Bits.{product-bits}
 use Rattle.wide.proofs.Powers.{fifth-is}
 use Rattle.strength.specs.Roots.{FactorWithin}
-use Rattle.group.specs.Share.{units, rowPasses, greatestTo, sharesTo, GreatestShare}
-use Rattle.group.specs.Rows.{rowNumber, nearest}
-use Rattle.spacing.proofs.Search.{pick-at-most}
+use Rattle.group.specs.Share.{units, rowPasses, allTo, greatestTo, GreatestShare}
 use Rattle.group.proofs.Sizes.{unit5, number2}
 
 pub fourth : (e : ℕ) → e * e * (e * e) ≡ e ^ 4
 fourth e = rw (pow-suc e 3, pow-suc e 2, pow-suc e 1, pow-suc e 0, pow-zero e) (omega arith)
-
--- the test of a power at another name of its base
-pub power-tested : (b : Bool) (r s q n : ℕ) → b ≡ leb (r ^ 5 * q) n → r ≡ s → b ≡ leb (s ^ 5 * q) n
-power-tested b r s q n h e = h ∙ ap (λ z. leb (z ^ 5 * q) n) e
 
 power20 : {a b : ℕ} → a ≤ b → (a ^ 4) ^ 5 ≤ (b ^ 4) ^ 5
 power20 h = pow-le-pow-left (pow-le-pow-left h 4) 5
@@ -53,14 +45,15 @@ pub nothing-passes : (d n a : ℕ) → rowPasses d n a 0 ≡ true
 unfolding rowPasses
 nothing-passes d n a = le-leb ((0 ^ 4) ^ 5 * ((130 * d) ^ 5 * (n * n))) (units * a ^ 5) (omega arith)
 
--- the whole of a lone dowel passes
-pub lone-passes : (d : ℕ) → d ≤ 30 → rowPasses d 1 200000 10000 ≡ true
+-- at the farthest distance every share up to the whole passes
+pub far-passes : (d n e : ℕ) → d ≤ 30 → n ≤ 64 → e ≤ 10000 → rowPasses d n 200000 e ≡ true
 unfolding rowPasses units
-lone-passes d h =
-    let l : 130 * d ≤ 200000 = omega arith in
-    let q : (130 * d) ^ 5 ≤ 200000 ^ 5 = pow-le-pow-left l 5 in
-    let r : (130 * d) ^ 5 * (1 * 1) ≤ 200000 ^ 5 = omega (arith, q) in
-    le-leb _ _ (mul-le-mul-left ((10000 ^ 4) ^ 5) r)
+far-passes d n e hd hn he =
+    let u : 130 * d ≤ 3900 = omega arith in
+    let far : 3900 ^ 5 * (64 * 64) ≤ 200000 ^ 5 = lit≤ tt in
+    le-leb _ _
+    (le-trans (mul-le-mul (power20 he) (mul-le-mul (pow-le-pow-left u 5) (mul-le-mul hn hn)))
+    (mul-le-mul-left ((10000 ^ 4) ^ 5) far))
 
 crossed :
     (P Q U n n′ A A′ : ℕ) → 1 ≤ n → n′ * n′ * A ≤ n * n * A′ → P * (Q * (n * n)) ≤ U * A → P * (Q * (n′ * n′)) ≤ U * A′
@@ -76,79 +69,116 @@ unfolding rowPasses
 lighter d n a n′ a′ e s h p =
     le-leb _ _ (crossed ((e ^ 4) ^ 5) ((130 * d) ^ 5) units n n′ (a ^ 5) (a′ ^ 5) s h (leb-true _ _ p))
 
+-- a test that holds wherever another does
+and-after : (s t : Bool) → (t ≡ true → s ≡ true) → t ≡ s && t
+and-after true t h = refl
+and-after false true h = sym (h refl)
+and-after false false h = refl
+
+and-before : (s t : Bool) → (s ≡ true → t ≡ true) → s ≡ s && t
+and-before true t h = sym (h refl)
+and-before false t h = refl
+
+-- of two rows the one with the greater n²/a^5 decides
+module _ (n a n′ a′ : ℕ) where
+  pub first-decides :
+      1 ≤ n → n′ * n′ * a ^ 5 ≤ n * n * a′ ^ 5 → (d e : ℕ) → rowPasses d n a e ≡ rowPasses d n′ a′ e && rowPasses d n a e
+  first-decides s h d e = and-after _ _ (lighter d n a n′ a′ e s h)
+
+  pub second-decides :
+      1 ≤ n′ → n * n * a′ ^ 5 ≤ n′ * n′ * a ^ 5 → (d e : ℕ) → rowPasses d n′ a′ e ≡ rowPasses d n′ a′ e && rowPasses d n a e
+  second-decides s h d e = and-before _ _ (lighter d n′ a′ n a e s h)
+
+-- ---- every index below k
+pub all-true : (test : ℕ → Bool) (k : ℕ) → ((i : ℕ) → i < k → test i ≡ true) → allTo test k ≡ true
+unfolding allTo
+all-true test zero h = refl
+all-true test (suc k) h = rw (h k (omega arith)) (all-true test k (λ i q. h i (omega arith)))
+
+pub all-on : (test : ℕ → Bool) (k : ℕ) → allTo test (k + 1) ≡ test k && allTo test k
+unfolding allTo
+all-on test k = ap (allTo test) (add-one k)
+
+pub both-true : (s t : Bool) → s && t ≡ true → (s ≡ true) × (t ≡ true)
+both-true true t h = (refl, h)
+both-true false t h = absurd (false≢true h)
+
+pub all-at : (test : ℕ → Bool) (k : ℕ) → allTo test k ≡ true → (i : ℕ) → i < k → test i ≡ true
+unfolding allTo
+all-at test zero h i l = absurd (omega arith)
+all-at test (suc k) h i l =
+    let p = both-true (test k) (allTo test k) h in go (decLt i k) (p .0) (all-at test k (p .1))
+  where
+    go : Dec (i < k) → test k ≡ true → ((j : ℕ) → j < k → test j ≡ true) → test i ≡ true
+    go (yes q) t r = r i q
+    go (no q) t r = let s : i ≡ k = omega (arith, lt-of-not-le q) in rw s t
+
+pub record Fails (test : ℕ → Bool) (k : ℕ) : Type 0 where
+  pub one : ℕ
+  pub within : one < k
+  pub fails : test one ≡ false
+
+pub all-fails : (test : ℕ → Bool) (k : ℕ) → allTo test k ≡ false → Fails test k
+unfolding allTo
+all-fails test zero h = absurd (true≢false h)
+all-fails test (suc k) h = go (test k) refl h (all-fails test k)
+  where
+    go : (b : Bool) → test k ≡ b → b && allTo test k ≡ false → (allTo test k ≡ false → Fails test k) → Fails test (suc k)
+    go true t q ih = let f = ih q in record { one = f .one; within = omega (arith, f .within); fails = f .fails }
+    go false t q ih = record { one = k; within = omega arith; fails = t }
+
 -- ---- the greatest number that passes a test
-pub greatest-here : (test : ℕ → Bool) (e : ℕ) → test e ≡ true → e ≡ greatestTo test e
+pub record Greatest (test : ℕ → Bool) (e r : ℕ) : Type 0 where
+  pub bound : r ≤ e
+  pub passes : 0 < r → test r ≡ true
+  pub above : (k : ℕ) → r < k → k ≤ e → test k ≡ false
+
+greatest-by :
+    (test : ℕ → Bool) (e r : ℕ) (b : Bool) → test (suc e) ≡ b → Greatest test e r → Greatest test (suc e) (cond b (suc e) r)
+greatest-by test e r true t g =
+    record { bound = le-refl _; passes = λ _. t; above = λ k h l. absurd (omega arith) }
+greatest-by test e r false t g =
+    record { bound = omega (arith, g .bound); passes = g .passes; above = λ k h l. go k h l (decLe k e) }
+  where
+    go : (k : ℕ) → r < k → k ≤ suc e → Dec (k ≤ e) → test k ≡ false
+    go k h l (yes p) = g .above k h p
+    go k h l (no p) = let s : k ≡ suc e = omega (arith, lt-of-not-le p) in rw s t
+
+pub greatest : (test : ℕ → Bool) (e : ℕ) → Greatest test e (greatestTo test e)
 unfolding greatestTo
-greatest-here test zero h = refl
-greatest-here test (suc e) h = rw h
+greatest test zero =
+    record { bound = le-refl _; passes = λ h. absurd (omega arith); above = λ k h l. absurd (omega arith) }
+greatest test (suc e) = greatest-by test e (greatestTo test e) (test (suc e)) refl (greatest test e)
 
-found-by :
-    (test : ℕ → Bool) (r e : ℕ) → Dec (r ≤ e) → r ≤ suc e → test r ≡ true →
-    ((k : ℕ) → r < k → k ≤ suc e → test k ≡ false) →
-    (r ≤ e → r ≡ greatestTo test e) → r ≡ cond (test (suc e)) (suc e) (greatestTo test e)
-found-by test r e (yes p) h t f ih = rw (f (suc e) (omega arith) (le-refl _)) (ih p)
-found-by test r e (no p) h t f ih =
-    let s : r ≡ suc e = omega (arith, lt-of-not-le p) in
-    rw (← s, t)
-
-passes-by : (test : ℕ → Bool) (b : Bool) (x y : ℕ) → test x ≡ b → test y ≡ true → test (cond b x y) ≡ true
-passes-by test true x y h k = h
-passes-by test false x y h k = k
+-- what passes is at most the greatest
+pub greatest-from : (test : ℕ → Bool) (m e : ℕ) → m ≤ e → test m ≡ true → m ≤ greatestTo test e
+greatest-from test m e h q = go (decLe m (greatestTo test e))
+  where
+    go : Dec (m ≤ greatestTo test e) → m ≤ greatestTo test e
+    go (yes p) = p
+    go (no p) = absurd (true≢false (sym q ∙ greatest test e .above m (lt-of-not-le p) h))
 
 pub greatest-found :
-    (test : ℕ → Bool) (r e : ℕ) → r ≤ e → test r ≡ true → ((k : ℕ) → r < k → k ≤ e → test k ≡ false) →
-    r ≡ greatestTo test e
-unfolding greatestTo
-greatest-found test r zero h t f = omega arith
-greatest-found test r (suc e) h t f = found-by test r e (decLe r e) h t f (λ p. greatest-found test r e p t (λ k q l. f k q (omega arith)))
-
-pub greatest-bound : (test : ℕ → Bool) (e : ℕ) → greatestTo test e ≤ e
-unfolding greatestTo
-greatest-bound test zero = omega arith
-greatest-bound test (suc e) = let h = greatest-bound test e in pick-at-most (test (suc e)) _ _ _ (omega arith) (omega arith)
-
-pub greatest-passes : (test : ℕ → Bool) (e : ℕ) → test 0 ≡ true → test (greatestTo test e) ≡ true
-unfolding greatestTo
-greatest-passes test zero h = h
-greatest-passes test (suc e) h = passes-by test (test (suc e)) (suc e) (greatestTo test e) refl (greatest-passes test e h)
-
-within-by :
-    (test other : ℕ → Bool) (e : ℕ) (b : Bool) → test (suc e) ≡ b → (other (suc e) ≡ true → test (suc e) ≡ true) →
-    greatestTo other (greatestTo test e) ≡ greatestTo other e →
-    greatestTo other (cond b (suc e) (greatestTo test e)) ≡ cond (other (suc e)) (suc e) (greatestTo other e)
-unfolding greatestTo
-within-by test other e true t f ih = refl
-within-by test other e false t f ih = rw (fails (other (suc e)) refl) ih
+    (test : ℕ → Bool) (r e : ℕ) → r ≤ e → test r ≡ true → ((k : ℕ) → r < k → k ≤ e → test k ≡ false) → r ≡ greatestTo test e
+greatest-found test r e h t f = go (decLe (greatestTo test e) r)
   where
-    fails : (b : Bool) → other (suc e) ≡ b → other (suc e) ≡ false
-    fails true h = absurd (true≢false (sym (f h) ∙ t))
-    fails false h = h
+    go : Dec (greatestTo test e ≤ r) → r ≡ greatestTo test e
+    go (yes p) = omega (arith, greatest-from test r e h t)
+    go (no p) =
+        let g = greatest test e in
+        absurd (true≢false
+        (sym (g .passes (omega (arith, lt-of-not-le p))) ∙ f (greatestTo test e) (lt-of-not-le p) (g .bound)))
 
--- a test that passes no more need not start lower
-greatest-within :
-    (test other : ℕ → Bool) (e : ℕ) → ((k : ℕ) → other k ≡ true → test k ≡ true) →
-    greatestTo other (greatestTo test e) ≡ greatestTo other e
+pub greatest-here : (test : ℕ → Bool) (e : ℕ) → test e ≡ true → e ≡ greatestTo test e
+greatest-here test e h = greatest-found test e e (le-refl _) h (λ k p q. absurd (omega arith))
+
+-- tests that agree up to e have one greatest
+pub greatest-same :
+    (test other : ℕ → Bool) (e : ℕ) → ((k : ℕ) → k ≤ e → test k ≡ other k) → greatestTo test e ≡ greatestTo other e
 unfolding greatestTo
-greatest-within test other zero f = refl
-greatest-within test other (suc e) f =
-    within-by test other e (test (suc e)) refl (f (suc e)) (greatest-within test other e f)
-
-above-by :
-    (test : ℕ → Bool) (e r : ℕ) (b : Bool) → test (suc e) ≡ b → r ≤ e → (r < e → test (r + 1) ≡ false) →
-    cond b (suc e) r < suc e → test (cond b (suc e) r + 1) ≡ false
-above-by test e r true t l ih h = absurd (omega arith)
-above-by test e r false t l ih h = go (decLe (r + 1) e)
-  where
-    go : Dec (r + 1 ≤ e) → test (r + 1) ≡ false
-    go (yes p) = ih (omega arith)
-    go (no p) = let s : r + 1 ≡ suc e = omega (arith, lt-of-not-le p) in rw s t
-
--- the next number after the greatest fails
-pub greatest-above : (test : ℕ → Bool) (e : ℕ) → greatestTo test e < e → test (greatestTo test e + 1) ≡ false
-unfolding greatestTo
-greatest-above test zero h = absurd (omega arith)
-greatest-above test (suc e) h =
-    above-by test e (greatestTo test e) (test (suc e)) refl (greatest-bound test e) (greatest-above test e) h
+greatest-same test other zero h = refl
+greatest-same test other (suc e) h =
+    rw (h (suc e) (le-refl _), greatest-same test other e (λ k l. h k (omega arith)))
 
 -- the greatest share of a row, by its bracket
 pub row-floor :
@@ -159,36 +189,12 @@ row-floor d n a share q m r eq em g =
     let e = eq ∙ mul-comm (n * n) ((130 * d) ^ 5) in
     greatest-found _ r share (le-of-lt (g .below))
     (le-leb _ _ (rw (e, em) at (g .low)))
-    (λ k h l. lt-leb _ _ (lt-of-lt-of-le (rw (e, em) at (g .high)) (mul-le-mul-right ((130 * d) ^ 5 * (n * n)) (power20 (omega arith)))))
+    (λ k h l.
+    lt-leb _ _
+    (lt-of-lt-of-le (rw (e, em) at (g .high)) (mul-le-mul-right ((130 * d) ^ 5 * (n * n)) (power20 (omega arith)))))
 
 -- the test in wide numbers is the row's test
 pub row-tested :
     (d n a e q m : ℕ) → q ≡ n * n * (130 * d) ^ 5 → m ≡ units * a ^ 5 → leb ((e ^ 4) ^ 5 * q) m ≡ rowPasses d n a e
 unfolding rowPasses
 row-tested d n a e q m eq em = rw (eq ∙ mul-comm (n * n) ((130 * d) ^ 5), em)
-
--- of two rows the one with the greater n²/a^5 decides
-pub first-decides :
-    (d n a n′ a′ : ℕ) → 1 ≤ n → n′ * n′ * a ^ 5 ≤ n * n * a′ ^ 5 →
-    greatestTo (rowPasses d n a) 10000 ≡ greatestTo (rowPasses d n′ a′) (greatestTo (rowPasses d n a) 10000)
-first-decides d n a n′ a′ s h =
-    greatest-here (rowPasses d n′ a′) (greatestTo (rowPasses d n a) 10000)
-    (lighter d n a n′ a′ _ s h (greatest-passes (rowPasses d n a) 10000 (nothing-passes d n a)))
-
-pub second-decides :
-    (d n a n′ a′ : ℕ) → 1 ≤ n′ → n * n * a′ ^ 5 ≤ n′ * n′ * a ^ 5 →
-    greatestTo (rowPasses d n′ a′) 10000 ≡ greatestTo (rowPasses d n′ a′) (greatestTo (rowPasses d n a) 10000)
-second-decides d n a n′ a′ s h =
-    sym (greatest-within (rowPasses d n a) (rowPasses d n′ a′) 10000 (λ k. lighter d n′ a′ n a k s h))
-
--- one more row
-pub shares-on :
-    (d : ℕ) (a b : List ℤ) (count k : ℕ) →
-    sharesTo d a b count (k + 1)
-    ≡ greatestTo (rowPasses d (rowNumber b count k) (nearest a b count k)) (sharesTo d a b count k)
-unfolding sharesTo
-shares-on d a b count k = ap (sharesTo d a b count) (add-one k)
-
-pub shares-none : (d : ℕ) (a b : List ℤ) (count : ℕ) → 10000 ≡ sharesTo d a b count 0
-unfolding sharesTo
-shares-none d a b count = refl

@@ -1,5 +1,4 @@
 -- How many bits the numbers behind a row's share have.
--- Assumes nothing.
 use mathlib.Core.Path.{_≡_, refl}
 use mathlib.Core.List.{[], _∷_}
 use Prim.Native.Nat.{ℕ, _*_, _^_, _≤_, _<_}

@@ -1,15 +1,13 @@
 -- Rows, effective number and row share (01, 'Rows, share and use'). Lengths are tenths of a millimetre, d is in mm.
 -- a are the coordinates of the dowels along a member's grain, b across it; dowels are counted from 0.
-use Prim.Native.Nat.{ℕ, zero, suc, _+_, _*_, _^_, _≤_, _<_, min}
+use Prim.Native.Nat.{ℕ, zero, suc, _+_, _*_, _^_, _≤_, _<_}
 use mathlib.Core.Path.{_≡_}
-use mathlib.Core.Bool.{Bool, true, cond, not, _&&_}
+use mathlib.Core.Bool.{Bool, true, cond}
 use mathlib.Core.List.{List}
-use mathlib.Core.Logic.{_⊎_}
 use lib.Dec.{eqb}
 use lib.IntN.{ℤ}
 use Rattle.strength.specs.Fraction.{Fraction, _over_, whole, _⊗_, _↑_, _≼_}
-use Rattle.spacing.specs.declared.verdict.Member.{Member}
-use Rattle.spacing.specs.Spacing.{along, across, distance}
+use Rattle.spacing.specs.Spacing.{distance}
 
 -- A row in a member is all dowels with the same across coordinate: the row of dowel i.
 abbrev pub sameRow : List ℤ → ℕ → ℕ → Bool
@@ -24,25 +22,26 @@ countTo test (suc k) = cond (test k) (countTo test k + 1) (countTo test k)
 abbrev pub rowNumber : List ℤ → ℕ → ℕ → ℕ
 rowNumber b count i = countTo (sameRow b i) count
 
--- Coordinates run from -100,000 to 100,000, so no two dowels lie farther apart.
-abbrev pub farthest : ℕ
-farthest = 200000
+-- a1 is the least along distance in the row: two dowels of it lie a1 apart, and no two of it lie closer
+pub record LeastDistance (a b : List ℤ) (count i a1 : ℕ) : Type 0 where
+  pub one : ℕ
+  pub two : ℕ
+  pub one-within : one < count
+  pub two-within : two < count
+  pub differ : one ≡ two → ⊥
+  pub one-row : sameRow b i one ≡ true
+  pub two-row : sameRow b i two ≡ true
+  pub attained : a1 ≡ distance a one two
+  pub least :
+      (j k : ℕ) → j < count → k < count → (j ≡ k → ⊥) → sameRow b i j ≡ true → sameRow b i k ≡ true →
+      a1 ≤ distance a j k
 
--- the least f j of those j below k that pass a test; the farthest distance where none does
-unfoldable pub leastTo : (ℕ → Bool) → (ℕ → ℕ) → ℕ → ℕ
-leastTo test f zero = farthest
-leastTo test f (suc k) = cond (test k) (min (leastTo test f k) (f k)) (leastTo test f k)
-
--- the distance along from dowel i to the nearest other dowel of its row
-abbrev pub other : List ℤ → ℕ → ℕ → Bool
-other b i j = sameRow b i j && not (eqb i j)
-
-abbrev pub nearest : List ℤ → List ℤ → ℕ → ℕ → ℕ
-nearest a b count i = leastTo (other b i) (distance a i) count
-
--- a1 is the least along distance in the row
-abbrev pub rowDistance : List ℤ → List ℤ → ℕ → ℕ → ℕ
-rowDistance a b count i = leastTo (sameRow b i) (nearest a b count) count
+-- n and a1 are those of a row. A row of one dowel has no a1: every number stands for it, and no test reads it.
+pub record IsRow (a b : List ℤ) (count n a1 : ℕ) : Type 0 where
+  pub dowel : ℕ
+  pub within : dowel < count
+  pub number : n ≡ rowNumber b count dowel
+  pub distance : 1 < n → LeastDistance a b count dowel a1
 
 -- The effective number is 1 for n = 1, else the lesser of n and n^0.9 (a1/13d)^¼. A fraction e is not above it if e ≤ n and, for
 -- n > 1, e^20 (130 d)^5 ≤ n^18 a1^5.
@@ -59,50 +58,23 @@ pub data NotBelow (d n a1 : ℕ) (e : Fraction) : Type 0 where
 abbrev pub shareOver : ℕ → ℕ → Fraction
 shareOver e n = (e * n) over 10000
 
-abbrev pub EveryRow : ℕ → List ℤ → List ℤ → ℕ → ℕ → Type 0
-EveryRow d a b count e =
-    (i : ℕ) → i < count →
-    NotAbove d (rowNumber b count i) (rowDistance a b count i) (shareOver e (rowNumber b count i))
+-- `row n a1` says that n and a1 are those of a row
+abbrev pub EveryRow : (ℕ → ℕ → Type 0) → ℕ → ℕ → Type 0
+EveryRow row d e = (n a1 : ℕ) → row n a1 → NotAbove d n a1 (shareOver e n)
 
-pub record SomeRowAbove (d : ℕ) (a b : List ℤ) (count e : ℕ) : Type 0 where
-  pub row : ℕ
-  pub within : row < count
-  pub above : NotAbove d (rowNumber b count row) (rowDistance a b count row) (shareOver e (rowNumber b count row)) → ⊥
+pub record SomeRowAbove (row : ℕ → ℕ → Type 0) (d e : ℕ) : Type 0 where
+  pub n : ℕ
+  pub a1 : ℕ
+  pub is : row n a1
+  pub above : NotAbove d n a1 (shareOver e n) → ⊥
 
-pub record ShareBracket (d : ℕ) (a b : List ℤ) (count e : ℕ) : Type 0 where
-  pub every : EveryRow d a b count e
-  pub some : SomeRowAbove d a b count (e + 2)
-
--- The rows of one member of a record.
-abbrev pub MemberShareBracket : Member → ℕ → List ℤ → List ℤ → ℕ → ℕ → Type 0
-MemberShareBracket m d x y count e = ShareBracket d (along (m .grain) x y) (across (m .grain) x y) count e
-
--- The rows of both members.
-pub record RowShareBracket (m₁ m₂ : Member) (d : ℕ) (x y : List ℤ) (count e : ℕ) : Type 0 where
-  pub side : EveryRow d (along (m₁ .grain) x y) (across (m₁ .grain) x y) count e
-  pub middle : EveryRow d (along (m₂ .grain) x y) (across (m₂ .grain) x y) count e
-  pub some :
-      SomeRowAbove d (along (m₁ .grain) x y) (across (m₁ .grain) x y) count (e + 2)
-      ⊎ SomeRowAbove d (along (m₂ .grain) x y) (across (m₂ .grain) x y) count (e + 2)
-
--- What a1 is, in other words: two dowels of the row of dowel i lie a1 apart along the grain, and no two of it lie closer. A law
--- shows it of `rowDistance` for a row of several dowels within 01's coordinates.
-pub record LeastDistance (a b : List ℤ) (count i a1 : ℕ) : Type 0 where
-  pub one : ℕ
-  pub two : ℕ
-  pub one-within : one < count
-  pub two-within : two < count
-  pub differ : one ≡ two → ⊥
-  pub one-row : sameRow b i one ≡ true
-  pub two-row : sameRow b i two ≡ true
-  pub attained : a1 ≡ distance a one two
-  pub least :
-      (j k : ℕ) → j < count → k < count → (j ≡ k → ⊥) → sameRow b i j ≡ true → sameRow b i k ≡ true →
-      a1 ≤ distance a j k
+-- the bracket over the rows of one member
+pub record MemberBracket (row : ℕ → ℕ → Type 0) (d e : ℕ) : Type 0 where
+  pub every : EveryRow row d e
+  pub some : SomeRowAbove row d (e + 2)
 
 -- What the record's limits guarantee and the share needs.
 pub record RowsGiven (d count : ℕ) : Type 0 where
-  pub thin : 6 ≤ d
   pub thick : d ≤ 30
   pub some : 1 ≤ count
   pub most : count ≤ 64

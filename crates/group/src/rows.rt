@@ -3,10 +3,10 @@ ghost use mathlib.Core.Path.{_≡_};
 ghost use mathlib.Core.Bool.{cond, _&&_};
 ghost use Prim.Native.Nat.{_+_, _<_, _≤_, min};
 ghost use lib.Dec.{eqb};
-ghost use Rattle.group.specs.Rows.{rowNumber, nearest};
+ghost use Rattle.group.specs.Share.{RowOf};
 use spacing::signed;
 
-// No two dowels of a record lie farther apart.
+// In tenths: at this distance a row passes every share, so a greater one need not be told apart from it.
 pub const FARTHEST: u64 = 200000;
 
 // The row of a dowel: its number of dowels, and the distance along to the nearest other one.
@@ -43,7 +43,7 @@ fn narrowed(least: u64, along: u64, across: u64, other: bool) -> u64
 // The row of dowel i, in one pass.
 pub fn row_of(a: &[i32; 64], b: &[i32; 64], count: usize, i: usize) -> Row
     requires { ⌜ (i < count) × (count ≤ 64) ⌝ }
-    ensures { λ r. ⌜ (r .number ≡ rowNumber (now (b .entry)) count i) × (r .nearest ≡ nearest (now (a .entry)) (now (b .entry)) count i) ⌝ }
+    ensures { λ r. ⌜ RowOf (now (a .entry)) (now (b .entry)) count i r ⌝ }
 {
     let mut number = 0;
     let mut least = FARTHEST;

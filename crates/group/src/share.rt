@@ -4,32 +4,27 @@ ghost use Prim.Native.Nat.{_*_, _^_, _≤_};
 ghost use lib.Dec.{leb};
 ghost use Rattle.wide.specs.Natural.{value};
 ghost use Rattle.strength.specs.Roots.{FactorWithin};
-ghost use Rattle.group.specs.Rows.{RowsGiven, MemberShareBracket};
+ghost use Rattle.group.specs.Rows.{RowsGiven};
 ghost use Rattle.group.specs.Share.{
   units,
-  RowWithin,
+  RowHolds,
   BetweenShares,
   GreatestShare,
   greatestTo,
   rowPasses,
   Decides,
-  sharesTo,
-  shareOf,
-  sharesOf,
+  memberShare,
+  MemberShared,
 };
 use crate::rows;
 use crate::rows::Row;
-use spacing::verdict::Member;
 use strength::roots;
 
 // Ten-thousandths of the whole.
 const WHOLE: u64 = 10000;
 
-// The shares of both members, in ten-thousandths.
-pub struct Shares {
-    pub side: u64,
-    pub middle: u64,
-}
+// 13 d in tenths of a millimetre, for each millimetre of d (EN 1995-1-1 (8.34)).
+const REFERENCE: u64 = 130;
 
 // 10,000 to the power of 20.
 const UNITS: [u32; 9] = [
@@ -92,10 +87,10 @@ fn greatest_between(q: &[u32], n: &[u32], lo: u64, hi: u64) -> u64
 
 // The greatest share that a row passes.
 fn row_share(d: u64, row: Row) -> u64
-    requires { ⌜ (d ≤ 30) × RowWithin row ⌝ }
+    requires { ⌜ (d ≤ 30) × RowHolds row ⌝ }
     ensures { λ r. ⌜ r ≡ greatestTo (rowPasses d (row .number) (row .nearest)) 10000 ⌝ }
 {
-    let q = product(row.number, 130 * d);
+    let q = product(row.number, REFERENCE * d);
     let n = scaled(row.nearest);
     if passes(WHOLE, &q, &n) {
         return WHOLE;
@@ -105,7 +100,7 @@ fn row_share(d: u64, row: Row) -> u64
 
 // Of two rows the one that passes fewer shares: the greater number² / nearest^5. A row no longer and no closer needs no powers.
 fn deciding(worst: Row, row: Row) -> Row
-    requires { ⌜ RowWithin worst × RowWithin row ⌝ }
+    requires { ⌜ RowHolds worst × RowHolds row ⌝ }
     ensures { λ r. ⌜ Decides worst row r ⌝ }
 {
     if row.number <= worst.number {
@@ -121,10 +116,10 @@ fn deciding(worst: Row, row: Row) -> Row
     row
 }
 
-// The share of the rows of a member, with the dowels' coordinates along and across its grain.
+// The same of lists that are lent.
 fn share_in(d: u64, a: &[i32; 64], b: &[i32; 64], count: usize) -> u64
     requires { ⌜ RowsGiven d count ⌝ }
-    ensures { λ r. ⌜ r ≡ sharesTo d (now (a .entry)) (now (b .entry)) count count ⌝ }
+    ensures { λ r. ⌜ r ≡ memberShare d (now (a .entry)) (now (b .entry)) count ⌝ }
 {
     let mut worst = Row {
         number: 1,
@@ -138,42 +133,10 @@ fn share_in(d: u64, a: &[i32; 64], b: &[i32; 64], count: usize) -> u64
     row_share(d, worst)
 }
 
-// The share of a member.
-pub fn member_share(m: Member, d: u64, x: [i32; 64], y: [i32; 64], count: usize) -> u64
+// The share of a member, with the dowels' coordinates along and across its grain.
+pub fn member_share(d: u64, a: [i32; 64], b: [i32; 64], count: usize) -> u64
     requires { ⌜ RowsGiven d count ⌝ }
-    ensures { λ r. ⌜ MemberShareBracket m d x y count r ⌝ }
-    ensures { λ r. ⌜ r ≡ shareOf m d x y count ⌝ }
+    ensures { λ r. ⌜ MemberShared d a b count r ⌝ }
 {
-    if m.grain == 0 {
-        return share_in(d, &x, &y, count);
-    }
-    share_in(d, &y, &x, count)
-}
-
-// The shares of both members: one root where the grains agree.
-pub fn both_shares(
-    side: Member,
-    middle: Member,
-    d: u64,
-    x: [i32; 64],
-    y: [i32; 64],
-    count: usize,
-) -> Shares
-    requires { ⌜ RowsGiven d count ⌝ }
-    ensures { λ r. ⌜ MemberShareBracket side d x y count (r .side) ⌝ }
-    ensures { λ r. ⌜ MemberShareBracket middle d x y count (r .middle) ⌝ }
-    ensures { λ r. ⌜ r ≡ sharesOf side middle d x y count ⌝ }
-{
-    let first = member_share(side, d, x, y, count);
-    if side.grain == middle.grain {
-        return Shares {
-            side: first,
-            middle: first,
-        };
-    }
-    let second = member_share(middle, d, x, y, count);
-    Shares {
-        side: first,
-        middle: second,
-    }
+    share_in(d, &a, &b, count)
 }

@@ -5,12 +5,12 @@ pub mod Order
 pub mod Stages
 pub mod Tests
 pub mod Accepted
+pub mod Within
 pub mod UseLaws
 pub mod UseSizes
 pub mod Uses
-pub mod UseBrackets
 pub mod EnoughLaws
+pub mod Answers
 pub mod Claims
 pub mod Meaning
-pub mod Planes
 pub mod Stars

@@ -4,7 +4,7 @@ use native.Mathlib.Omega.{arith}
 use native.Mathlib.Nat.{add-zero, add-sub-cancel-left}
 use native.Mathlib.Numerals.{add-one}
 use mathlib.Core.Path.{_≡_, refl, sym, ap, _∙_}
-use mathlib.Core.List.{List, [], _∷_, _++_}
+use mathlib.Core.List.{List}
 use mathlib.Core.Bool.{Bool, true, false, cond, not, _&&_, _||_, false≢true, and-false, and-eq-true-iff}
 use lib.Dec.{eqb, leb, lit≤}
 use lib.ListN.{length, getD, take, drop, replicate, length-drop}
@@ -34,8 +34,8 @@ use Rattle.joint.specs.declared.layout.Part.{Part}
 use Rattle.joint.specs.declared.layout.Parts.{Parts}
 use Rattle.joint.specs.declared.layout.Layout.{Layout}
 use Rattle.joint.specs.declared.layout.Layout.the-variants.{Laid, Refused as LayoutRefused}
-use Rattle.joint.proofs.Holding.{none-holds, first-zero, first-kept}
-use Rattle.joint.proofs.Tests.{failed, held, equal, unequal, zero-bits}
+use Rattle.joint.proofs.Holding.{none-holds}
+use Rattle.joint.proofs.Tests.{equal, unequal, zero-bits}
 
 -- ---- the number behind an answer
 module _ {r : Layout} where

@@ -1,53 +1,124 @@
 -- The starred joints of 01 follow from the definitions: every report for which the top claim holds says what 01 prints.
 use Prim.Native.Nat.{ℕ, zero, suc, _+_, _*_, _≤_, _<_}
-use mathlib.Core.Path.{_≡_, refl, sym, ap, _∙_, subst, subst⁻¹, subst₂}
-use mathlib.Core.List.{List, [], _∷_}
-use native.Mathlib.Omega.{arith}
-use lib.ListN.{set, replicate}
-use lib.IntN.{pos, negsuc}
-use Rattle.spacing.specs.declared.verdict.Fault.{Fault}
-use Rattle.spacing.specs.Verdict.{fault, pairFault, endFault, edgeFault, verdictIn, memberVerdict, spacingVerdict}
-use Rattle.spacing.specs.Spacing.{alongEnough, endPasses}
-use Rattle.spacing.specs.Search.{firstFrom as firstIndex, partner, firstPair}
-use Rattle.joint.specs.declared.report.Report.{Report}
-use Rattle.joint.specs.declared.report.Verdict.the-variants.{Fits, Overloaded}
-use Rattle.joint.specs.declared.Values.{Values}
-use Rattle.numbers.specs.Numbers.{twosComplement, i32At}
-use Rattle.chain.specs.Chain.{numberAt, bound, allFollow, chained}
-use Rattle.joint.specs.Layout.{partOfPair, pairOfKind, outlineAt, memberAt, membersIn, dowelIn, column, positionsIn, loadsIn, valuesOf}
-use Rattle.numbers.specs.Numbers.{coordinate, force}
-use Rattle.joint.specs.Refusal.{refusal1, refusal2, refusal3, refusal4, oneIf, once, refusal5, positionsLength, refusal6, knownClass, outlineWithin, memberWithin, membersWithin, dowelWithin, coordinates, positionsWithin, loadsWithin, fieldsWithin, outlineEmpty, emptyOutlines, noForce, firstHolding, refusalNumber, drillFault, refusalOf}
-use native.Mathlib.Nat.{lt-of-not-le, mul-le-mul-right, lt-of-mul-lt-mul-left, not-le-of-lt}
+use mathlib.Core.Path.{_≡_, refl, sym, ap, _∙_, subst, subst⁻¹}
+use mathlib.Core.List.{List, [], _∷_, map}
 use mathlib.Core.Logic.{⊎-elim}
+use native.Mathlib.Nat.{lt-of-not-le, mul-le-mul-right, lt-of-mul-lt-mul-left, not-le-of-lt}
+use native.Mathlib.Omega.{arith}
 use lib.Dec.{lit<, lit≤}
+use lib.IntN.{pos, negsuc}
+use lib.ListN.{getD, replicate}
+use Rattle.numbers.specs.Numbers.{twosComplement, i32At, coordinate, force}
 use Rattle.strength.specs.Fraction.{Fraction, _over_, whole, _↑_, _≼_}
 use Rattle.strength.specs.Shear.{AtMostR, bearing}
 use Rattle.strength.specs.Tables.{densityOf, steelOf, kmodOf}
 use Rattle.strength.proofs.Falling.{falls}
-use Rattle.group.specs.Rows.{NotAbove, NotBelow, shareOver, countTo, leastTo, rowNumber, rowDistance}
+use Rattle.spacing.specs.declared.verdict.Fault.{Fault}
+use Rattle.spacing.specs.Spacing.{alongEnough, endPasses}
+use Rattle.spacing.specs.Search.{firstFrom, partner, firstPair}
+use Rattle.spacing.specs.Verdict.{fault, pairFault, endFault, edgeFault, verdictIn, memberVerdict, spacingVerdict}
+use Rattle.group.specs.Rows.{countTo, rowNumber, IsRow, NotAbove, NotBelow, SomeRowAbove, shareOver}
 use Rattle.group.specs.Rows.NotBelow.{several}
+use Rattle.group.specs.Share.{leastTo, nearest}
 use Rattle.group.proofs.Effective.{not-above-falls}
-use Rattle.joint.specs.declared.Member.{Member}
+use Rattle.group.proofs.RowLaws.{own-row, near, near-least, least-near, least-distance}
 use Rattle.joint.specs.declared.Positions.{Positions}
-use Rattle.joint.specs.declared.Outline.{Outline}
-use Rattle.joint.specs.Use.{planeOf, rowOf, spacingOf, Above0, planeForce, rowForce, NotAboveRow, EveryRow, SomeRow, Enough, CapacityBracket, ShareBracket, UseBracket}
-use Rattle.joint.specs.Workings.{Passed}
-use Rattle.joint.proofs.Claims.{plane, clear, passed, fits, overloaded}
-use Rattle.joint.proofs.Meaning.{sound, no-refusal}
+use Rattle.joint.specs.declared.Values.{Values}
+use Rattle.joint.specs.declared.report.Report.{Report}
+use Rattle.chain.specs.Chain.{numberAt, bound, allFollow, chained}
+use Rattle.joint.specs.Layout.{partOfPair, pairOfKind, outlineAt, memberAt, membersIn, dowelIn, column, positionsIn, loadsIn, valuesOf}
+use Rattle.joint.specs.Refusal.{refusal1, refusal2, refusal3, refusal4, oneIf, once, refusal5, positionsLength, refusal6, knownClass}
+use Rattle.joint.specs.Refusal.{outlineWithin, memberWithin, membersWithin, dowelWithin, coordinates, positionsWithin, loadsWithin}
+use Rattle.joint.specs.Refusal.{fieldsWithin, outlineEmpty, emptyOutlines, noForce, firstHolding, refusalNumber, drillFault, refusalOf}
+use Rattle.joint.specs.Design.{Design}
+use Rattle.joint.specs.DesignOf.{planeIn, planeOf, designOf}
+use Rattle.joint.specs.Use.{Above0, planeForce, rowForce, Enough, CapacityBracket, ShareBracket, UseBracket, Answered}
+use Rattle.joint.specs.Claim.{Judged}
+use Rattle.joint.specs.Returned.{Passed}
+use Rattle.joint.specs.Starred.{RefusedAs, Within, SaysSo, Starred, starred, AllHold}
+use Rattle.joint.specs.Starred.Prints.{noRefusal}
 use Rattle.joint.proofs.EnoughLaws.{RowBy, enough-up, enough-by}
-use Rattle.joint.specs.Claim.{Judged, Answered, Accepted}
-use Rattle.joint.specs.Starred.{membersB, dowelB, positionsB, loadsB, headerB, loneHeader, lonePositions, pairHeader, pairPositions, pairLoads, recordOf, jointB, RefusedAs, Within, SaysSo, Starred, starred}
-use Rattle.joint.specs.Starred.Prints.{
-  noRefusal,
-  fitsWith,
-  verdict,
-  overloadedWith,
-  loneWith,
+use Rattle.joint.proofs.Answers.{plane, sound}
+use Rattle.joint.proofs.Claims.{accepted-passed, fits, overloaded}
+use Rattle.joint.proofs.Meaning.{no-refusal}
+
+-- ---- the table: the refusal of each star, and the values of those that are judged
+abbrev none : Fault
+none = fault 0 0 0 0
+
+abbrev refusals : List Fault
+refusals =
+    none ∷ none ∷ none ∷ fault 10 1 1 2 ∷ fault 11 2 2 0 ∷ fault 12 1 3 0 ∷ none ∷ fault 7 0 0 0 ∷ none ∷ none
+    ∷ fault 10 1 1 2 ∷ []
+
+refused-as : map (λ (s : Starred). refusalOf (s .bytes)) starred ≡ refusals
+unfolding refusalOf refusalNumber firstHolding refusal1 refusal2 refusal3 numberAt bound allFollow chained refusal4 oneIf once refusal5 positionsLength
+    refusal6 coordinate force knownClass outlineWithin memberWithin membersWithin dowelWithin coordinates positionsWithin
+    loadsWithin fieldsWithin outlineEmpty emptyOutlines noForce drillFault twosComplement i32At partOfPair pairOfKind
+    outlineAt memberAt membersIn dowelIn column positionsIn loadsIn valuesOf pairFault endFault edgeFault verdictIn
+    memberVerdict spacingVerdict alongEnough endPasses firstFrom partner firstPair
+refused-as = refl
+
+abbrev fourDowels : Positions
+fourDowels = record {
+  n = 4;
+  x = pos 0 ∷ pos 600 ∷ pos 0 ∷ pos 600 ∷ replicate 60 (pos 0);
+  y = pos 0 ∷ pos 0 ∷ pos 360 ∷ pos 360 ∷ replicate 60 (pos 0);
 }
 
--- a report on a refused record
-refused-row : (bytes : List ℕ) (f : Fault) → refusalOf bytes ≡ f → (f .number ≡ 0 → ⊥) → (r : Report) → Judged bytes r
-    → RefusedAs (f .number) (f .member) (f .first) (f .second) r
+abbrev oneDowel : Positions
+oneDowel = record { n = 1; x = replicate 64 (pos 0); y = replicate 64 (pos 0) }
+
+-- joint B with fx, t1 and the positions
+abbrev kin : ℕ → ℕ → Positions → Values
+kin fx t1 places = record {
+  members = record {
+    planes = 2;
+    member1 = record {
+      class = 1;
+      grain = 0;
+      thickness = t1;
+      outline = record { x0 = negsuc 839; y0 = negsuc 359; x1 = pos 20000; y1 = pos 720 };
+    };
+    member2 = record {
+      class = 1;
+      grain = 0;
+      thickness = 800;
+      outline = record { x0 = negsuc 19999; y0 = negsuc 359; x1 = pos 1440; y1 = pos 720 };
+    };
+  };
+  dowel = record { diameter = 12; steel = 1 };
+  positions = places;
+  loads = record { «service_class» = 1; duration = 3; fx = pos fx; fy = pos 0 };
+}
+
+abbrev star : ℕ → Starred
+star k = getD starred k (record { bytes = []; prints = noRefusal })
+
+abbrev judgedStars : List ℕ
+judgedStars = 0 ∷ 1 ∷ 2 ∷ 6 ∷ 8 ∷ []
+
+abbrev judgedValues : List Values
+judgedValues =
+    kin 20000 600 fourDowels ∷ kin 26700 600 fourDowels ∷ kin 27000 600 fourDowels ∷ kin 20000 200 fourDowels
+    ∷ kin 3000 600 oneDowel ∷ []
+
+values-as : map (λ (k : ℕ). valuesOf (star k .bytes)) judgedStars ≡ judgedValues
+unfolding twosComplement i32At partOfPair pairOfKind outlineAt memberAt membersIn dowelIn column positionsIn loadsIn valuesOf
+values-as = refl
+
+value-at :
+    (k : ℕ) →
+    getD (map (λ (i : ℕ). valuesOf (star i .bytes)) judgedStars) k (kin 0 0 oneDowel) ≡ getD judgedValues k (kin 0 0 oneDowel)
+value-at k = ap (λ (l : List Values). getD l k (kin 0 0 oneDowel)) values-as
+
+refusal-at : (k : ℕ) → getD (map (λ (s : Starred). refusalOf (s .bytes)) starred) k none ≡ getD refusals k none
+refusal-at k = ap (λ (l : List Fault). getD l k none) refused-as
+
+-- ---- refused stars
+refused-row :
+    (bytes : List ℕ) (f : Fault) → refusalOf bytes ≡ f → (f .number ≡ 0 → ⊥) → (r : Report) → Judged bytes r →
+    RefusedAs (f .number) (f .member) (f .first) (f .second) r
 refused-row bytes f e n r j = record {
   verdict = j .refused (λ h. n (sym (ap (λ (g : Fault). g .number) e) ∙ h)) .verdict;
   number = j .number ∙ ap (λ (g : Fault). g .number) e;
@@ -56,110 +127,118 @@ refused-row bytes f e n r j = record {
   second = j .second ∙ ap (λ (g : Fault). g .second) e;
 }
 
-le-of-lt-suc : {a b : ℕ} → a < b + 1 → a ≤ b
-le-of-lt-suc h = omega arith
-
+-- ---- judged stars: from the claim and a few tests at numerals to 01's ranges
 not-more : (a b : ℕ) → (b + 1 ≤ a → ⊥) → a ≤ b
 not-more a b f = omega (arith, lt-of-not-le f)
 
--- ---- accepted records: from the claim and a few tests at numerals to 01's ranges
--- a record's values where it is accepted
-module _ (v : Values) (p : Passed v) where
+module _ (fx t1 : ℕ) (places : Positions) (p : Passed (kin fx t1 places)) where
+  abbrev j : Design
+  j = designOf (kin fx t1 places)
+
   abbrev R : Fraction → Type 0
-  R = AtMostR (planeOf v)
+  R = AtMostR (j .plane)
 
-  -- c passes and c + 1 fails, so a capacity is c or one less
-  capacity-two : (c C : ℕ) → R (whole (c + 1)) → (R (whole (c + 2)) → ⊥) → CapacityBracket v C → Within c (c + 1) C
+  -- c + 1 passes and c + 2 fails, so a capacity is c or one more
+  capacity-two : (c C : ℕ) → R (whole (c + 1)) → (R (whole (c + 2)) → ⊥) → CapacityBracket j C → Within c (c + 1) C
   capacity-two c C passes fails b = record {
-    from = not-more c C (λ h. b .high (falls (planeOf v) (plane v p) (whole (c + 1)) (whole (C + 2)) (lit< tt) (omega arith) passes));
-    to = not-more C (c + 1) (λ h. fails (falls (planeOf v) (plane v p) (whole C) (whole (c + 2)) (lit< tt) (omega arith) (b .low)));
-  }
-
-  share-falls : (m : Member) (E F : ℕ) (i : ℕ) → F ≤ E → NotAboveRow v m i (shareOver E (rowOf v m i)) → NotAboveRow v m i (shareOver F (rowOf v m i))
-  share-falls m E F i h =
-      not-above-falls (v .dowel .diameter) (rowOf v m i) (spacingOf v m i) (shareOver F (rowOf v m i)) (shareOver E (rowOf v m i)) (lit< tt)
-      (omega (arith, mul-le-mul-right (rowOf v m i) h))
-
-  some-fails : (m : Member) (e E : ℕ) → EveryRow v m (e + 1) → SomeRow v m E → e ≤ E
-  some-fails m e E every s = not-more e E (λ h. s .above (share-falls m (e + 1) (E + 2) (s .row) (omega arith) (every (s .row) (s .within))))
-
-  -- e + 1 passes in every row and e + 2 fails in the row of dowel 0 of member 1, so a share is e or one more
-  share-two : (e E : ℕ) → EveryRow v (v .members .member1) (e + 1) → EveryRow v (v .members .member2) (e + 1)
-      → (NotAboveRow v (v .members .member1) 0 (shareOver (e + 2) (rowOf v (v .members .member1) 0)) → ⊥)
-      → ShareBracket v E → Within e (e + 1) E
-  share-two e E every₁ every₂ fails b = record {
-    from = ⊎-elim (some-fails (v .members .member1) e E every₁) (some-fails (v .members .member2) e E every₂) (b .some);
-    to = not-more E (e + 1) (λ h. fails (share-falls (v .members .member1) E (e + 2) 0 (omega arith) (b .side 0 (sound v p .dowels))));
+    from = not-more c C (λ h. b .high (falls (j .plane) (plane _ p) (whole (c + 1)) (whole (C + 2)) (lit< tt) (omega arith) passes));
+    to = not-more C (c + 1) (λ h. fails (falls (j .plane) (plane _ p) (whole C) (whole (c + 2)) (lit< tt) (omega arith) (b .low)));
   }
 
   -- u is enough, so the use is at most 10,050 u + 2; w is not, so it is above 10,000 w
-  use-most : (u : Fraction) (U h : ℕ) → Enough v u → 10050 * u .num + 2 * u .den < (h + 1) * u .den → UseBracket v U → U ≤ h
-  use-most u U h e l b = le-of-lt-suc (lt-of-mul-lt-mul-left (u .den) (omega (arith, b .least u e, l)))
+  use-most : (u : Fraction) (U h : ℕ) → Enough j u → 10050 * u .num + 2 * u .den < (h + 1) * u .den → UseBracket j U → U ≤ h
+  use-most u U h e l b =
+      let q : U < h + 1 = lt-of-mul-lt-mul-left (u .den) (omega (arith, b .least u e, l)) in omega arith
 
-  use-least : (w U : ℕ) → 0 < w → (Enough v (w over 10000) → ⊥) → UseBracket v U → w + 1 ≤ U
+  use-least : (w U : ℕ) → 0 < w → (Enough j (w over 10000) → ⊥) → UseBracket j U → w + 1 ≤ U
   use-least w U pw n b =
-      not-more (w + 1) U (λ h. n (enough-up v (sound v p) (U over 10000) (w over 10000) (record { num = pw; den = lit< tt }) (omega arith) (b .enough)))
+      not-more (w + 1) U
+      (λ h. n (enough-up j (sound _ p) (U over 10000) (w over 10000) (record { num = pw; den = lit< tt }) (omega arith) (b .enough)))
 
--- ---- joint B and its kin: their values
-abbrev fourDowels : Positions
-fourDowels = record {
-  n = 4;
-  x = pos 0 ∷ pos 600 ∷ pos 0 ∷ pos 600 ∷ replicate 60 (pos 0);
-  y = pos 0 ∷ pos 0 ∷ pos 360 ∷ pos 360 ∷ replicate 60 (pos 0);
-}
+  -- all rows have n₀ dowels a₀ apart
+  abbrev row : ℕ → ℕ → Type 0
+  row = IsRow (places .x) (places .y) (places .n)
 
-abbrev lone : Positions
-lone = record { n = 1; x = replicate 64 (pos 0); y = replicate 64 (pos 0) }
+  module _ (n₀ a₀ : ℕ) (some : row n₀ a₀) (every : (n a1 : ℕ) → row n a1 → (n ≡ n₀) × (1 < n → a1 ≡ a₀)) where
+    not-above : (n a1 : ℕ) → row n a1 → (e : ℕ → Fraction) → NotAbove 12 n₀ a₀ (e n₀) → NotAbove 12 n a1 (e n)
+    not-above n a1 r e h =
+        let k = every n a1 r in
+        record {
+          number = subst⁻¹ (λ (m : ℕ). e m ≼ whole m) (k .0) (h .number);
+          several = λ m. rw (k .1 m, k .0) (h .several (rw (k .0) at m));
+        }
 
-abbrev outline1 : Outline
-outline1 = record { x0 = negsuc 839; y0 = negsuc 359; x1 = pos 20000; y1 = pos 720 }
+    less : (E F : ℕ) → F ≤ E → NotAbove 12 n₀ a₀ (shareOver E n₀) → NotAbove 12 n₀ a₀ (shareOver F n₀)
+    less E F h = not-above-falls 12 n₀ a₀ (shareOver F n₀) (shareOver E n₀) (lit< tt) (omega (arith, mul-le-mul-right n₀ h))
 
-abbrev outline2 : Outline
-outline2 = record { x0 = negsuc 19999; y0 = negsuc 359; x1 = pos 1440; y1 = pos 720 }
+    -- e + 1 passes and e + 2 fails, so a share is e or one more
+    share-two :
+        (e E : ℕ) → NotAbove 12 n₀ a₀ (shareOver (e + 1) n₀) → (NotAbove 12 n₀ a₀ (shareOver (e + 2) n₀) → ⊥) →
+        ShareBracket j E → Within e (e + 1) E
+    share-two e E passes fails b = record {
+      from = ⊎-elim from (⊎-elim from absurd) (b .some);
+      to = not-more E (e + 1) (λ h. fails (less E (e + 2) (omega arith) (b .every .0 n₀ a₀ some)));
+    }
+      where
+        from : SomeRowAbove row 12 (E + 2) → e ≤ E
+        from s =
+            not-more e E
+            (λ h. s .above (not-above (s .n) (s .a1) (s .is) (shareOver (E + 2)) (less (e + 1) (E + 2) (omega arith) passes)))
 
--- with fx, t1 and the positions
-abbrev kin : ℕ → ℕ → Positions → Values
-kin fx t1 places = record {
-  members = record {
-    planes = 2;
-    member1 = record { class = 1; grain = 0; thickness = t1; outline = outline1 };
-    member2 = record { class = 1; grain = 0; thickness = 800; outline = outline2 };
-  };
-  dowel = record { diameter = 12; steel = 1 };
-  positions = places;
-  loads = record { «service_class» = 1; duration = 3; fx = pos fx; fy = pos 0 };
-}
+    enough :
+        (u e : Fraction) → Above0 u → Above0 e → NotAbove 12 n₀ a₀ e → R (planeForce (whole fx) (j .counted) (j .kmod) u) →
+        R (rowForce fx n₀ e (j .counted) (j .kmod) u) → whole (j .squaredForce) ≼ (whole fx ↑ 2) → Enough j u
+    enough u e pu pe na total one hF = enough-by j (sound _ p) u (whole fx) pu (lit< tt) hF total (by, (by, tt))
+      where
+        by : (n a1 : ℕ) → row n a1 → RowBy j (sound _ p) u fx n a1
+        by n a1 r = record {
+          e = e;
+          above0 = pe;
+          not-above = not-above n a1 r (λ _. e) na;
+          passes = subst⁻¹ (λ (m : ℕ). R (rowForce fx m e (j .counted) (j .kmod) u)) (every n a1 r .0) one;
+        }
 
--- dowels of fourDowels: rows of 2, 600 apart
-two-rows : (i : ℕ) → i < 4 → rowNumber (fourDowels .y) 4 i ≡ 2
-unfolding countTo
-two-rows zero l = refl
-two-rows (suc zero) l = refl
-two-rows (suc (suc zero)) l = refl
-two-rows (suc (suc (suc zero))) l = refl
+    not-enough :
+        (u e : Fraction) → Above0 e → NotBelow 12 n₀ a₀ e → (R (rowForce fx n₀ e (j .counted) (j .kmod) u) → ⊥) → Enough j u → ⊥
+    not-enough u e pe nb f h = f (h .rows .0 n₀ a₀ some e pe nb)
+
+-- ---- four dowels: rows of 2, 600 apart
+two-rows : (i : ℕ) → i < 4 → (rowNumber (fourDowels .y) 4 i ≡ 2) × (nearest 200000 (fourDowels .x) (fourDowels .y) 4 i ≡ 600)
+unfolding countTo leastTo
+two-rows zero l = (refl, refl)
+two-rows (suc zero) l = (refl, refl)
+two-rows (suc (suc zero)) l = (refl, refl)
+two-rows (suc (suc (suc zero))) l = (refl, refl)
 two-rows (suc (suc (suc (suc i)))) l = absurd (omega arith)
 
-six-hundred : (i : ℕ) → i < 4 → rowDistance (fourDowels .x) (fourDowels .y) 4 i ≡ 600
-unfolding leastTo
-six-hundred zero l = refl
-six-hundred (suc zero) l = refl
-six-hundred (suc (suc zero)) l = refl
-six-hundred (suc (suc (suc zero))) l = refl
-six-hundred (suc (suc (suc (suc i)))) l = absurd (omega arith)
+abbrev fourRow : ℕ → ℕ → Type 0
+fourRow = IsRow (fourDowels .x) (fourDowels .y) 4
 
--- what the claim says of accepted bytes whose values are known
-module _ (bytes : List ℕ) (v : Values) (a : Accepted bytes) (e : valuesOf bytes ≡ v) where
-  known-passed : Passed v
-  known-passed = let k = clear bytes a in subst Passed e (passed bytes (k .number) (k .drill))
+four-every : (n a1 : ℕ) → fourRow n a1 → (n ≡ 2) × (1 < n → a1 ≡ 600)
+four-every n a1 r = (r .number ∙ two-rows (r .dowel) (r .within) .0, distance)
+  where
+    distance : 1 < n → a1 ≡ 600
+    distance m =
+        let x = fourDowels .x in
+        let y = fourDowels .y in
+        let i = r .dowel in
+        let l = r .distance m in
+        let t = two-rows i (r .within) .1 in
+        let close = near x y 4 200000 i (omega (arith, t)) in
+        omega (
+          arith,
+          t,
+          least-near x y 4 200000 i l (r .within) (own-row y i) close,
+          near-least x y 4 200000 l,
+          two-rows (l .one) (l .one-within) .1,
+        )
 
-  answered-as : (r : Report) → Judged bytes r → Answered v r
-  answered-as r j = subst (λ (w : Values). Answered w r) e (j .accepted a)
-
-fits-at : (v : Values) (r : Report) → Answered v r → r .usage ≤ 10000 → r .verdict ≡ Fits
-fits-at v r h l = h .verdict ∙ sym (fits (r .usage) l)
-
-overloaded-at : (v : Values) (r : Report) → Answered v r → 10001 ≤ r .usage → r .verdict ≡ Overloaded
-overloaded-at v r h l = h .verdict ∙ sym (overloaded (r .usage) l)
+four-some : fourRow 2 600
+four-some =
+    let n = two-rows 0 (lit< tt) .0 in
+    let l = least-distance (fourDowels .x) (fourDowels .y) 4 0 (lit< tt) (omega (arith, n)) in
+    let r : fourRow 2 (l .0) = record { dowel = 0; within = lit< tt; number = sym n; distance = λ _. l .1 } in
+    subst (fourRow 2) (four-every 2 (l .0) r .1 (lit< tt)) r
 
 -- the effective number of 2 dowels 600 apart lies between these
 abbrev below2 : Fraction
@@ -168,293 +247,175 @@ below2 = 14695476 over 10000000
 abbrev above2 : Fraction
 above2 = 14695478 over 10000000
 
-not-above2 : NotAbove 12 2 600 below2
-not-above2 = record { number = lit≤ tt; several = λ _. lit≤ tt }
+-- ---- the lone dowel: a row of 1
+abbrev oneRow : ℕ → ℕ → Type 0
+oneRow = IsRow (oneDowel .x) (oneDowel .y) 1
 
-not-below2 : NotBelow 12 2 600 above2
-not-below2 = several (lit< tt) (lit≤ tt)
-
--- ---- four dowels, the force F along both grains
-module _ (F t1 : ℕ) (p : Passed (kin F t1 fourDowels)) where
-  abbrev four : Values
-  four = kin F t1 fourDowels
-
-  abbrev Rs : Fraction → Type 0
-  Rs = AtMostR (planeOf four)
-
-  row-by : (t : ℕ) (o : Outline) (u : Fraction) → Rs (rowForce F 2 below2 (whole 8) 80 u) → (i : ℕ) → i < 4
-      → RowBy four (sound four p) (record { class = 1; grain = 0; thickness = t; outline = o }) u i
-  unfolding kmodOf
-  row-by t o u h i l = record {
-    e = below2;
-    above0 = record { num = lit< tt; den = lit< tt };
-    not-above = subst₂ (λ (n k : ℕ). NotAbove 12 n k below2) (sym (two-rows i l)) (sym (six-hundred i l)) not-above2;
-    passes = subst⁻¹ (λ (n : ℕ). Rs (rowForce F n below2 (whole 8) 80 u)) (two-rows i l) h;
-  }
-
-  four-enough : (u : Fraction) → Above0 u → whole (F * F + 0 * 0) ≼ (whole F ↑ 2) → Rs (planeForce (whole F) (whole 8) 80 u)
-      → Rs (rowForce F 2 below2 (whole 8) 80 u) → Enough four u
-  unfolding kmodOf
-  four-enough u pu hF total row = enough-by four (sound four p) u (whole F) pu (lit< tt) hF total (row-by t1 outline1 u row) (row-by 800 outline2 u row)
-
-  four-not : (u : Fraction) → (Rs (rowForce F 2 above2 (whole 8) 80 u) → ⊥) → Enough four u → ⊥
-  unfolding kmodOf
-  four-not u n e =
-      n (subst (λ (k : ℕ). Rs (rowForce F k above2 (whole 8) 80 u)) (two-rows 0 (lit< tt))
-      (e .rows1 0 (lit< tt) above2 (record { num = lit< tt; den = lit< tt })
-      (subst₂ (λ (k a : ℕ). NotBelow 12 k a above2) (sym (two-rows 0 (lit< tt))) (sym (six-hundred 0 (lit< tt))) not-below2)))
-
-  every-four : EveryRow four (four .members .member1) 7347
-  every-four i l =
-      subst₂ (λ (n k : ℕ). NotAbove 12 n k (shareOver 7347 n)) (sym (two-rows i l)) (sym (six-hundred i l)) (record { number = lit≤ tt; several = λ _. lit≤ tt })
-
-  share-four : (E : ℕ) → ShareBracket four E → Within 7346 7347 E
-  share-four E b = share-two four p 7346 E every-four every-four fails b
-    where
-      fails : NotAboveRow four (four .members .member1) 0 (shareOver 7348 (rowOf four (four .members .member1) 0)) → ⊥
-      fails h =
-          not-le-of-lt (lit< tt)
-          (subst₂ (λ (n k : ℕ). NotAbove 12 n k (shareOver 7348 n)) (two-rows 0 (lit< tt)) (six-hundred 0 (lit< tt)) h .several (lit< tt))
-
--- ---- the tests at numerals
-accepted-B : Accepted (recordOf headerB membersB dowelB positionsB loadsB)
-unfolding refusalOf refusalNumber firstHolding refusal1 refusal2 refusal3 numberAt bound allFollow chained refusal4 oneIf once refusal5 positionsLength refusal6 coordinate force knownClass outlineWithin memberWithin membersWithin dowelWithin coordinates positionsWithin loadsWithin fieldsWithin outlineEmpty emptyOutlines noForce drillFault twosComplement i32At partOfPair pairOfKind outlineAt memberAt membersIn dowelIn column positionsIn loadsIn valuesOf pairFault endFault edgeFault verdictIn memberVerdict spacingVerdict alongEnough endPasses firstIndex partner firstPair
-accepted-B = refl
-
-values-B : valuesOf (recordOf headerB membersB dowelB positionsB loadsB) ≡ kin 20000 600 fourDowels
-unfolding twosComplement i32At partOfPair pairOfKind outlineAt memberAt membersIn dowelIn column positionsIn loadsIn valuesOf
-values-B = refl
-
-passed-B : Passed (kin 20000 600 fourDowels)
-passed-B = known-passed (recordOf headerB membersB dowelB positionsB loadsB) (kin 20000 600 fourDowels) accepted-B values-B
-
-accepted-26700 : Accepted (recordOf headerB membersB dowelB positionsB (set (set loadsB 3 76) 4 104))
-unfolding refusalOf refusalNumber firstHolding refusal1 refusal2 refusal3 numberAt bound allFollow chained refusal4 oneIf once refusal5 positionsLength refusal6 coordinate force knownClass outlineWithin memberWithin membersWithin dowelWithin coordinates positionsWithin loadsWithin fieldsWithin outlineEmpty emptyOutlines noForce drillFault twosComplement i32At partOfPair pairOfKind outlineAt memberAt membersIn dowelIn column positionsIn loadsIn valuesOf pairFault endFault edgeFault verdictIn memberVerdict spacingVerdict alongEnough endPasses firstIndex partner firstPair
-accepted-26700 = refl
-
-values-26700 : valuesOf (recordOf headerB membersB dowelB positionsB (set (set loadsB 3 76) 4 104)) ≡ kin 26700 600 fourDowels
-unfolding twosComplement i32At partOfPair pairOfKind outlineAt memberAt membersIn dowelIn column positionsIn loadsIn valuesOf
-values-26700 = refl
-
-passed-26700 : Passed (kin 26700 600 fourDowels)
-passed-26700 = known-passed (recordOf headerB membersB dowelB positionsB (set (set loadsB 3 76) 4 104)) (kin 26700 600 fourDowels) accepted-26700 values-26700
-
-accepted-27000 : Accepted (recordOf headerB membersB dowelB positionsB (set (set loadsB 3 120) 4 105))
-unfolding refusalOf refusalNumber firstHolding refusal1 refusal2 refusal3 numberAt bound allFollow chained refusal4 oneIf once refusal5 positionsLength refusal6 coordinate force knownClass outlineWithin memberWithin membersWithin dowelWithin coordinates positionsWithin loadsWithin fieldsWithin outlineEmpty emptyOutlines noForce drillFault twosComplement i32At partOfPair pairOfKind outlineAt memberAt membersIn dowelIn column positionsIn loadsIn valuesOf pairFault endFault edgeFault verdictIn memberVerdict spacingVerdict alongEnough endPasses firstIndex partner firstPair
-accepted-27000 = refl
-
-values-27000 : valuesOf (recordOf headerB membersB dowelB positionsB (set (set loadsB 3 120) 4 105)) ≡ kin 27000 600 fourDowels
-unfolding twosComplement i32At partOfPair pairOfKind outlineAt memberAt membersIn dowelIn column positionsIn loadsIn valuesOf
-values-27000 = refl
-
-passed-27000 : Passed (kin 27000 600 fourDowels)
-passed-27000 = known-passed (recordOf headerB membersB dowelB positionsB (set (set loadsB 3 120) 4 105)) (kin 27000 600 fourDowels) accepted-27000 values-27000
-
-accepted-200 : Accepted (recordOf headerB (set (set membersB 4 200) 5 0) dowelB positionsB loadsB)
-unfolding refusalOf refusalNumber firstHolding refusal1 refusal2 refusal3 numberAt bound allFollow chained refusal4 oneIf once refusal5 positionsLength refusal6 coordinate force knownClass outlineWithin memberWithin membersWithin dowelWithin coordinates positionsWithin loadsWithin fieldsWithin outlineEmpty emptyOutlines noForce drillFault twosComplement i32At partOfPair pairOfKind outlineAt memberAt membersIn dowelIn column positionsIn loadsIn valuesOf pairFault endFault edgeFault verdictIn memberVerdict spacingVerdict alongEnough endPasses firstIndex partner firstPair
-accepted-200 = refl
-
-values-200 : valuesOf (recordOf headerB (set (set membersB 4 200) 5 0) dowelB positionsB loadsB) ≡ kin 20000 200 fourDowels
-unfolding twosComplement i32At partOfPair pairOfKind outlineAt memberAt membersIn dowelIn column positionsIn loadsIn valuesOf
-values-200 = refl
-
-passed-200 : Passed (kin 20000 200 fourDowels)
-passed-200 = known-passed (recordOf headerB (set (set membersB 4 200) 5 0) dowelB positionsB loadsB) (kin 20000 200 fourDowels) accepted-200 values-200
-
-accepted-lone : Accepted (recordOf loneHeader membersB dowelB lonePositions (set (set loadsB 3 184) 4 11))
-unfolding refusalOf refusalNumber firstHolding refusal1 refusal2 refusal3 numberAt bound allFollow chained refusal4 oneIf once refusal5 positionsLength refusal6 coordinate force knownClass outlineWithin memberWithin membersWithin dowelWithin coordinates positionsWithin loadsWithin fieldsWithin outlineEmpty emptyOutlines noForce drillFault twosComplement i32At partOfPair pairOfKind outlineAt memberAt membersIn dowelIn column positionsIn loadsIn valuesOf pairFault endFault edgeFault verdictIn memberVerdict spacingVerdict alongEnough endPasses firstIndex partner firstPair
-accepted-lone = refl
-
-values-lone : valuesOf (recordOf loneHeader membersB dowelB lonePositions (set (set loadsB 3 184) 4 11)) ≡ kin 3000 600 lone
-unfolding twosComplement i32At partOfPair pairOfKind outlineAt memberAt membersIn dowelIn column positionsIn loadsIn valuesOf
-values-lone = refl
-
-passed-lone : Passed (kin 3000 600 lone)
-passed-lone = known-passed (recordOf loneHeader membersB dowelB lonePositions (set (set loadsB 3 184) 4 11)) (kin 3000 600 lone) accepted-lone values-lone
-
-refused-599 : refusalOf (recordOf headerB membersB dowelB (set (set positionsB 10 87) 26 87) loadsB) ≡ fault 10 1 1 2
-unfolding refusalOf refusalNumber firstHolding refusal1 refusal2 refusal3 numberAt bound allFollow chained refusal4 oneIf once refusal5 positionsLength refusal6 coordinate force knownClass outlineWithin memberWithin membersWithin dowelWithin coordinates positionsWithin loadsWithin fieldsWithin outlineEmpty emptyOutlines noForce drillFault twosComplement i32At partOfPair pairOfKind outlineAt memberAt membersIn dowelIn column positionsIn loadsIn valuesOf pairFault endFault edgeFault verdictIn memberVerdict spacingVerdict alongEnough endPasses firstIndex partner firstPair
-refused-599 = refl
-
-refused-1439 : refusalOf (recordOf headerB (set membersB 34 159) dowelB positionsB loadsB) ≡ fault 11 2 2 0
-unfolding refusalOf refusalNumber firstHolding refusal1 refusal2 refusal3 numberAt bound allFollow chained refusal4 oneIf once refusal5 positionsLength refusal6 coordinate force knownClass outlineWithin memberWithin membersWithin dowelWithin coordinates positionsWithin loadsWithin fieldsWithin outlineEmpty emptyOutlines noForce drillFault twosComplement i32At partOfPair pairOfKind outlineAt memberAt membersIn dowelIn column positionsIn loadsIn valuesOf pairFault endFault edgeFault verdictIn memberVerdict spacingVerdict alongEnough endPasses firstIndex partner firstPair
-refused-1439 = refl
-
-refused-719 : refusalOf (recordOf headerB (set membersB 18 207) dowelB positionsB loadsB) ≡ fault 12 1 3 0
-unfolding refusalOf refusalNumber firstHolding refusal1 refusal2 refusal3 numberAt bound allFollow chained refusal4 oneIf once refusal5 positionsLength refusal6 coordinate force knownClass outlineWithin memberWithin membersWithin dowelWithin coordinates positionsWithin loadsWithin fieldsWithin outlineEmpty emptyOutlines noForce drillFault twosComplement i32At partOfPair pairOfKind outlineAt memberAt membersIn dowelIn column positionsIn loadsIn valuesOf pairFault endFault edgeFault verdictIn memberVerdict spacingVerdict alongEnough endPasses firstIndex partner firstPair
-refused-719 = refl
-
-refused-199 : refusalOf (recordOf headerB (set (set membersB 4 199) 5 0) dowelB positionsB loadsB) ≡ fault 7 0 0 0
-unfolding refusalOf refusalNumber firstHolding refusal1 refusal2 refusal3 numberAt bound allFollow chained refusal4 oneIf once refusal5 positionsLength refusal6 coordinate force knownClass outlineWithin memberWithin membersWithin dowelWithin coordinates positionsWithin loadsWithin fieldsWithin outlineEmpty emptyOutlines noForce drillFault twosComplement i32At partOfPair pairOfKind outlineAt memberAt membersIn dowelIn column positionsIn loadsIn valuesOf pairFault endFault edgeFault verdictIn memberVerdict spacingVerdict alongEnough endPasses firstIndex partner firstPair
-refused-199 = refl
-
-accepted-504 : Accepted (recordOf pairHeader membersB dowelB (pairPositions 248 1) pairLoads)
-unfolding refusalOf refusalNumber firstHolding refusal1 refusal2 refusal3 numberAt bound allFollow chained refusal4 oneIf once refusal5 positionsLength refusal6 coordinate force knownClass outlineWithin memberWithin membersWithin dowelWithin coordinates positionsWithin loadsWithin fieldsWithin outlineEmpty emptyOutlines noForce drillFault twosComplement i32At partOfPair pairOfKind outlineAt memberAt membersIn dowelIn column positionsIn loadsIn valuesOf pairFault endFault edgeFault verdictIn memberVerdict spacingVerdict alongEnough endPasses firstIndex partner firstPair
-accepted-504 = refl
-
-refused-503 : refusalOf (recordOf pairHeader membersB dowelB (pairPositions 247 1) pairLoads) ≡ fault 10 1 1 2
-unfolding refusalOf refusalNumber firstHolding refusal1 refusal2 refusal3 numberAt bound allFollow chained refusal4 oneIf once refusal5 positionsLength refusal6 coordinate force knownClass outlineWithin memberWithin membersWithin dowelWithin coordinates positionsWithin loadsWithin fieldsWithin outlineEmpty emptyOutlines noForce drillFault twosComplement i32At partOfPair pairOfKind outlineAt memberAt membersIn dowelIn column positionsIn loadsIn valuesOf pairFault endFault edgeFault verdictIn memberVerdict spacingVerdict alongEnough endPasses firstIndex partner firstPair
-refused-503 = refl
-
-capacity-B : AtMostR (planeOf (kin 20000 600 fourDowels)) (whole 7441)
-unfolding planeOf bearing densityOf steelOf
-capacity-B = record { first = lit≤ tt; second = record { within = lit≤ tt; square = lit≤ tt }; third = lit≤ tt }
-
-above-B : AtMostR (planeOf (kin 20000 600 fourDowels)) (whole 7442) → ⊥
-unfolding planeOf bearing densityOf steelOf
-above-B p = not-le-of-lt (lit< tt) (p .first)
-
-total-B : AtMostR (planeOf (kin 20000 600 fourDowels)) (planeForce (whole 20000) (whole 8) 80 (74305 over 100000))
-unfolding planeOf bearing densityOf steelOf
-total-B = record { first = lit≤ tt; second = record { within = lit≤ tt; square = lit≤ tt }; third = lit≤ tt }
-
-rows-B : AtMostR (planeOf (kin 20000 600 fourDowels)) (rowForce 20000 2 below2 (whole 8) 80 (74305 over 100000))
-unfolding planeOf bearing densityOf steelOf
-rows-B = record { first = lit≤ tt; second = record { within = lit≤ tt; square = lit≤ tt }; third = lit≤ tt }
-
-short-B : AtMostR (planeOf (kin 20000 600 fourDowels)) (rowForce 20000 2 above2 (whole 8) 80 (7430 over 10000)) → ⊥
-unfolding planeOf bearing densityOf steelOf
-short-B p = not-le-of-lt (lit< tt) (p .first)
-
-total-26700 : AtMostR (planeOf (kin 26700 600 fourDowels)) (planeForce (whole 26700) (whole 8) 80 (993 over 1000))
-unfolding planeOf bearing densityOf steelOf
-total-26700 = record { first = lit≤ tt; second = record { within = lit≤ tt; square = lit≤ tt }; third = lit≤ tt }
-
-rows-26700 : AtMostR (planeOf (kin 26700 600 fourDowels)) (rowForce 26700 2 below2 (whole 8) 80 (993 over 1000))
-unfolding planeOf bearing densityOf steelOf
-rows-26700 = record { first = lit≤ tt; second = record { within = lit≤ tt; square = lit≤ tt }; third = lit≤ tt }
-
-short-27000 : AtMostR (planeOf (kin 27000 600 fourDowels)) (rowForce 27000 2 above2 (whole 8) 80 (10000 over 10000)) → ⊥
-unfolding planeOf bearing densityOf steelOf
-short-27000 p = not-le-of-lt (lit< tt) (p .first)
-
-capacity-200 : AtMostR (planeOf (kin 20000 200 fourDowels)) (whole 2510)
-unfolding planeOf bearing densityOf steelOf
-capacity-200 = record { first = lit≤ tt; second = record { within = lit≤ tt; square = lit≤ tt }; third = lit≤ tt }
-
-above-200 : AtMostR (planeOf (kin 20000 200 fourDowels)) (whole 2511) → ⊥
-unfolding planeOf bearing densityOf steelOf
-above-200 p = not-le-of-lt (lit< tt) (p .second .square)
-
-short-200 : AtMostR (planeOf (kin 20000 200 fourDowels)) (rowForce 20000 2 above2 (whole 8) 80 (10000 over 10000)) → ⊥
-unfolding planeOf bearing densityOf steelOf
-short-200 p = not-le-of-lt (lit< tt) (p .second .square)
-
-total-lone : AtMostR (planeOf (kin 3000 600 lone)) (planeForce (whole 3000) (2 over 2) 80 (6552 over 10000))
-unfolding planeOf bearing densityOf steelOf
-total-lone = record { first = lit≤ tt; second = record { within = lit≤ tt; square = lit≤ tt }; third = lit≤ tt }
-
-rows-lone : AtMostR (planeOf (kin 3000 600 lone)) (rowForce 3000 1 (whole 1) (2 over 2) 80 (6552 over 10000))
-unfolding planeOf bearing densityOf steelOf
-rows-lone = record { first = lit≤ tt; second = record { within = lit≤ tt; square = lit≤ tt }; third = lit≤ tt }
-
-short-lone : AtMostR (planeOf (kin 3000 600 lone)) (planeForce (whole 3000) (2 over 2) 80 (6551 over 10000)) → ⊥
-unfolding planeOf bearing densityOf steelOf
-short-lone p = not-le-of-lt (lit< tt) (p .first)
-
--- ---- the lone dowel: rows of 1
-abbrev alone : Values
-alone = kin 3000 600 lone
-
-one-row : (i : ℕ) → i < 1 → rowNumber (lone .y) 1 i ≡ 1
+lone : (i : ℕ) → i < 1 → rowNumber (oneDowel .y) 1 i ≡ 1
 unfolding countTo
-one-row zero l = refl
-one-row (suc i) l = absurd (omega arith)
+lone zero l = refl
+lone (suc i) l = absurd (omega arith)
 
-not-above1 : (a1 e : ℕ) → e ≤ 10000 → NotAbove 12 1 a1 (shareOver e 1)
-not-above1 a1 e h = record { number = omega arith; several = λ l. absurd (omega arith) }
+one-every : (n a1 : ℕ) → oneRow n a1 → (n ≡ 1) × (1 < n → a1 ≡ 0)
+one-every n a1 r = let e = r .number ∙ lone (r .dowel) (r .within) in (e, λ m. absurd (omega arith))
 
-every-lone : EveryRow alone (alone .members .member1) 10000
-every-lone i l =
-    subst⁻¹ (λ (n : ℕ). NotAbove 12 n (rowDistance (lone .x) (lone .y) 1 i) (shareOver 10000 n)) (one-row i l)
-    (not-above1 (rowDistance (lone .x) (lone .y) 1 i) 10000 (omega arith))
-
-share-lone : (E : ℕ) → ShareBracket alone E → Within 9999 10000 E
-share-lone E b = share-two alone passed-lone 9999 E every-lone every-lone fails b
-  where
-    fails : NotAboveRow alone (alone .members .member1) 0 (shareOver 10001 (rowOf alone (alone .members .member1) 0)) → ⊥
-    fails h = not-le-of-lt (lit< tt) (subst (λ (n : ℕ). shareOver 10001 n ≼ whole n) (one-row 0 (lit< tt)) (h .number))
-
-row-lone : (t : ℕ) (o : Outline) (i : ℕ) → i < 1
-    → RowBy alone (sound alone passed-lone) (record { class = 1; grain = 0; thickness = t; outline = o }) (6552 over 10000) i
-unfolding kmodOf
-row-lone t o i l = record {
-  e = whole 1;
-  above0 = record { num = lit< tt; den = lit< tt };
-  not-above =
-      subst⁻¹ (λ (n : ℕ). NotAbove 12 n (rowDistance (lone .x) (lone .y) 1 i) (whole 1)) (one-row i l)
-      (record { number = lit≤ tt; several = λ k. absurd (omega arith) });
-  passes = subst⁻¹ (λ (n : ℕ). AtMostR (planeOf alone) (rowForce 3000 n (whole 1) (2 over 2) 80 (6552 over 10000))) (one-row i l) rows-lone;
-}
-
-enough-lone : Enough alone (6552 over 10000)
-unfolding kmodOf
-enough-lone =
-    enough-by alone (sound alone passed-lone) (6552 over 10000) (whole 3000) (record { num = lit< tt; den = lit< tt }) (lit< tt) (lit≤ tt)
-    total-lone (row-lone 600 outline1) (row-lone 800 outline2)
-
-not-lone : Enough alone (6551 over 10000) → ⊥
-unfolding kmodOf
-not-lone e = short-lone (e .total (whole 3000) (lit< tt) (lit≤ tt))
+one-some : oneRow 1 0
+one-some =
+    record { dowel = 0; within = lit< tt; number = sym (lone 0 (lit< tt)); distance = λ m. absurd (omega arith) }
 
 -- ---- the theorem
 abbrev Holds : Starred → Type 0
 Holds s = (r : Report) → Judged (s .bytes) r → SaysSo (s .prints) r
 
-abbrev pub AllHold : List Starred → Type 0
-AllHold [] = Unit {0}
-AllHold (s ∷ ss) = ((r : Report) → Judged (s .bytes) r → SaysSo (s .prints) r) × AllHold ss
+-- what the claim says of a judged star
+module _ (k : ℕ) (v : Values) (a : refusalOf (star k .bytes) ≡ none) (e : valuesOf (star k .bytes) ≡ v) where
+  passed : Passed v
+  passed = subst Passed e (accepted-passed (star k .bytes) (ap (λ (f : Fault). f .number) a))
 
-star-B : Holds (record { bytes = jointB; prints = fitsWith 7431 7469 7440 7441 7346 7347 })
+  answered-as : (r : Report) → Judged (star k .bytes) r → Answered (designOf v) r
+  answered-as r j = subst (λ (w : Values). Answered (designOf w) r) e (j .accepted (ap (λ (f : Fault). f .number) a))
+
+-- the tests at numerals: at most R, with fx and t1
+abbrev AtMost : ℕ → ℕ → Fraction → Type 0
+AtMost fx t1 =
+    AtMostR (planeOf (kin fx t1 oneDowel .members) (kin fx t1 oneDowel .dowel) (kin fx t1 oneDowel .loads))
+
+abbrev rowOf2 : ℕ → Fraction → Fraction → Fraction
+rowOf2 fx e v = rowForce fx 2 e (whole 8) 80 v
+
+capacity-B : AtMost 20000 600 (whole 7441)
+unfolding planeIn bearing densityOf steelOf
+capacity-B = record { first = lit≤ tt; second = record { within = lit≤ tt; square = lit≤ tt }; third = lit≤ tt }
+
+total-B : AtMost 20000 600 (planeForce (whole 20000) (whole 8) 80 (74305 over 100000))
+unfolding planeIn bearing densityOf steelOf
+total-B = record { first = lit≤ tt; second = record { within = lit≤ tt; square = lit≤ tt }; third = lit≤ tt }
+
+rows-B : AtMost 20000 600 (rowOf2 20000 below2 (74305 over 100000))
+unfolding planeIn bearing densityOf steelOf
+rows-B = record { first = lit≤ tt; second = record { within = lit≤ tt; square = lit≤ tt }; third = lit≤ tt }
+
+above-B : (AtMost 20000 600 (whole 7442) → ⊥) × (AtMost 20000 600 (rowOf2 20000 above2 (7430 over 10000)) → ⊥)
+unfolding planeIn bearing densityOf steelOf
+above-B = (λ p. not-le-of-lt (lit< tt) (p .first), λ p. not-le-of-lt (lit< tt) (p .first))
+
+total-26700 : AtMost 26700 600 (planeForce (whole 26700) (whole 8) 80 (993 over 1000))
+unfolding planeIn bearing densityOf steelOf
+total-26700 = record { first = lit≤ tt; second = record { within = lit≤ tt; square = lit≤ tt }; third = lit≤ tt }
+
+rows-26700 : AtMost 26700 600 (rowOf2 26700 below2 (993 over 1000))
+unfolding planeIn bearing densityOf steelOf
+rows-26700 = record { first = lit≤ tt; second = record { within = lit≤ tt; square = lit≤ tt }; third = lit≤ tt }
+
+above-27000 : AtMost 27000 600 (rowOf2 27000 above2 (10000 over 10000)) → ⊥
+unfolding planeIn bearing densityOf steelOf
+above-27000 p = not-le-of-lt (lit< tt) (p .first)
+
+capacity-200 : AtMost 20000 200 (whole 2510)
+unfolding planeIn bearing densityOf steelOf
+capacity-200 = record { first = lit≤ tt; second = record { within = lit≤ tt; square = lit≤ tt }; third = lit≤ tt }
+
+above-200 : (AtMost 20000 200 (whole 2511) → ⊥) × (AtMost 20000 200 (rowOf2 20000 above2 (10000 over 10000)) → ⊥)
+unfolding planeIn bearing densityOf steelOf
+above-200 = (λ p. not-le-of-lt (lit< tt) (p .second .square), λ p. not-le-of-lt (lit< tt) (p .second .square))
+
+total-lone : AtMost 3000 600 (planeForce (whole 3000) (2 over 2) 80 (6552 over 10000))
+unfolding planeIn bearing densityOf steelOf
+total-lone = record { first = lit≤ tt; second = record { within = lit≤ tt; square = lit≤ tt }; third = lit≤ tt }
+
+rows-lone : AtMost 3000 600 (rowForce 3000 1 (whole 1) (2 over 2) 80 (6552 over 10000))
+unfolding planeIn bearing densityOf steelOf
+rows-lone = record { first = lit≤ tt; second = record { within = lit≤ tt; square = lit≤ tt }; third = lit≤ tt }
+
+above-lone : AtMost 3000 600 (planeForce (whole 3000) (2 over 2) 80 (6551 over 10000)) → ⊥
+unfolding planeIn bearing densityOf steelOf
+above-lone p = not-le-of-lt (lit< tt) (p .first)
+
+-- ---- four dowels with fx and t1: a v that is enough, and one that is not
+above0 : (n d : ℕ) → 0 < n → 0 < d → Above0 (n over d)
+above0 n d pn pd = record { num = pn; den = pd }
+
+module _ (fx t1 : ℕ) (p : Passed (kin fx t1 fourDowels)) where
+  four-enough :
+      (u : Fraction) → Above0 u → AtMost fx t1 (planeForce (whole fx) (whole 8) 80 u) → AtMost fx t1 (rowOf2 fx below2 u) →
+      whole (fx * fx + 0 * 0) ≼ (whole fx ↑ 2) → Enough (designOf (kin fx t1 fourDowels)) u
+  unfolding kmodOf
+  four-enough u pu =
+      enough fx t1 fourDowels p 2 600 four-some four-every u below2 pu (above0 _ _ (lit< tt) (lit< tt))
+      (record { number = lit≤ tt; several = λ _. lit≤ tt })
+
+  four-not : (u : Fraction) → (AtMost fx t1 (rowOf2 fx above2 u) → ⊥) → Enough (designOf (kin fx t1 fourDowels)) u → ⊥
+  unfolding kmodOf
+  four-not u =
+      not-enough fx t1 fourDowels p 2 600 four-some four-every u above2 (above0 _ _ (lit< tt) (lit< tt))
+      (several (lit< tt) (lit≤ tt))
+
+star-B : Holds (star 0)
 star-B r j =
-    let v = kin 20000 600 fourDowels in
-    let h = answered-as jointB v accepted-B values-B r j in
-    let most = use-most v passed-B (74305 over 100000) (r .usage) 7469 (four-enough 20000 600 passed-B (74305 over 100000) (record { num = lit< tt; den = lit< tt }) (lit≤ tt) total-B rows-B) (lit< tt) (h .usage) in
+    let p = passed 0 (kin 20000 600 fourDowels) (refusal-at 0) (value-at 0) in
+    let h = answered-as 0 (kin 20000 600 fourDowels) (refusal-at 0) (value-at 0) r j in
+    let e = four-enough 20000 600 p (74305 over 100000) (above0 _ _ (lit< tt) (lit< tt)) total-B rows-B (lit≤ tt) in
+    let most = use-most 20000 600 fourDowels p (74305 over 100000) (r .usage) 7469 e (lit< tt) (h .usage) in
+    let least = use-least 20000 600 fourDowels p 7430 (r .usage) (lit< tt) (four-not 20000 600 p (7430 over 10000) (above-B .1)) (h .usage) in
     record {
-      verdict = fits-at v r h (omega arith);
-      usage = record { from = use-least v passed-B 7430 (r .usage) (lit< tt) (four-not 20000 600 passed-B (7430 over 10000) short-B) (h .usage); to = most };
-      capacity = capacity-two v passed-B 7440 (r .capacity) capacity-B above-B (h .capacity);
-      share = share-four 20000 600 passed-B (r .share) (h .share);
+      verdict = h .verdict ∙ sym (fits (r .usage) (omega arith));
+      usage = record { from = least; to = most };
+      capacity = capacity-two 20000 600 fourDowels p 7440 (r .capacity) capacity-B (above-B .0) (h .capacity);
+      share =
+          share-two 20000 600 fourDowels p 2 600 four-some four-every 7346 (r .share)
+          (record { number = lit≤ tt; several = λ _. lit≤ tt }) (λ q. not-le-of-lt (lit< tt) (q .several (lit< tt))) (h .share);
     }
 
-star-26700 : Holds (record { bytes = recordOf headerB membersB dowelB positionsB (set (set loadsB 3 76) 4 104); prints = verdict Fits })
+star-26700 : Holds (star 1)
 star-26700 r j =
-    let v = kin 26700 600 fourDowels in
-    let h = answered-as (recordOf headerB membersB dowelB positionsB (set (set loadsB 3 76) 4 104)) v accepted-26700 values-26700 r j in
-    fits-at v r h
-    (use-most v passed-26700 (993 over 1000) (r .usage) 10000
-    (four-enough 26700 600 passed-26700 (993 over 1000) (record { num = lit< tt; den = lit< tt }) (lit≤ tt) total-26700 rows-26700) (lit< tt) (h .usage))
+    let p = passed 1 (kin 26700 600 fourDowels) (refusal-at 1) (value-at 1) in
+    let h = answered-as 1 (kin 26700 600 fourDowels) (refusal-at 1) (value-at 1) r j in
+    let e = four-enough 26700 600 p (993 over 1000) (above0 _ _ (lit< tt) (lit< tt)) total-26700 rows-26700 (lit≤ tt) in
+    h .verdict ∙ sym (fits (r .usage) (use-most 26700 600 fourDowels p (993 over 1000) (r .usage) 10000 e (lit< tt) (h .usage)))
 
-star-27000 : Holds (record { bytes = recordOf headerB membersB dowelB positionsB (set (set loadsB 3 120) 4 105); prints = verdict Overloaded })
+star-27000 : Holds (star 2)
 star-27000 r j =
-    let v = kin 27000 600 fourDowels in
-    let h = answered-as (recordOf headerB membersB dowelB positionsB (set (set loadsB 3 120) 4 105)) v accepted-27000 values-27000 r j in
-    overloaded-at v r h (use-least v passed-27000 10000 (r .usage) (lit< tt) (four-not 27000 600 passed-27000 (10000 over 10000) short-27000) (h .usage))
+    let p = passed 2 (kin 27000 600 fourDowels) (refusal-at 2) (value-at 2) in
+    let h = answered-as 2 (kin 27000 600 fourDowels) (refusal-at 2) (value-at 2) r j in
+    let n = four-not 27000 600 p (10000 over 10000) above-27000 in
+    h .verdict ∙ sym (overloaded (r .usage) (use-least 27000 600 fourDowels p 10000 (r .usage) (lit< tt) n (h .usage)))
 
-star-200 : Holds (record { bytes = recordOf headerB (set (set membersB 4 200) 5 0) dowelB positionsB loadsB; prints = overloadedWith 2509 2510 })
+star-200 : Holds (star 6)
 star-200 r j =
-    let v = kin 20000 200 fourDowels in
-    let h = answered-as (recordOf headerB (set (set membersB 4 200) 5 0) dowelB positionsB loadsB) v accepted-200 values-200 r j in
+    let p = passed 6 (kin 20000 200 fourDowels) (refusal-at 6) (value-at 3) in
+    let h = answered-as 6 (kin 20000 200 fourDowels) (refusal-at 6) (value-at 3) r j in
+    let n = four-not 20000 200 p (10000 over 10000) (above-200 .1) in
     record {
-      verdict = overloaded-at v r h (use-least v passed-200 10000 (r .usage) (lit< tt) (four-not 20000 200 passed-200 (10000 over 10000) short-200) (h .usage));
-      capacity = capacity-two v passed-200 2509 (r .capacity) capacity-200 above-200 (h .capacity);
+      verdict = h .verdict ∙ sym (overloaded (r .usage) (use-least 20000 200 fourDowels p 10000 (r .usage) (lit< tt) n (h .usage)));
+      capacity = capacity-two 20000 200 fourDowels p 2509 (r .capacity) capacity-200 (above-200 .0) (h .capacity);
     }
 
-star-lone : Holds (record { bytes = recordOf loneHeader membersB dowelB lonePositions (set (set loadsB 3 184) 4 11); prints = loneWith 6552 6586 9999 10000 })
+star-lone : Holds (star 8)
+unfolding kmodOf
 star-lone r j =
-    let h = answered-as (recordOf loneHeader membersB dowelB lonePositions (set (set loadsB 3 184) 4 11)) alone accepted-lone values-lone r j in
+    let p = passed 8 (kin 3000 600 oneDowel) (refusal-at 8) (value-at 4) in
+    let h = answered-as 8 (kin 3000 600 oneDowel) (refusal-at 8) (value-at 4) r j in
+    let u = 6552 over 10000 in
+    let e =
+    enough 3000 600 oneDowel p 1 0 one-some one-every u (whole 1) (above0 _ _ (lit< tt) (lit< tt)) (above0 _ _ (lit< tt) (lit< tt))
+    (record { number = lit≤ tt; several = λ m. absurd (omega arith) }) total-lone rows-lone (lit≤ tt) in
     record {
       usage = record {
-        from = use-least alone passed-lone 6551 (r .usage) (lit< tt) not-lone (h .usage);
-        to = use-most alone passed-lone (6552 over 10000) (r .usage) 6586 enough-lone (lit< tt) (h .usage);
+        from =
+            use-least 3000 600 oneDowel p 6551 (r .usage) (lit< tt)
+            (λ n. above-lone (n .total (whole 3000) (lit< tt) (lit≤ tt))) (h .usage);
+        to = use-most 3000 600 oneDowel p u (r .usage) 6586 e (lit< tt) (h .usage);
       };
-      share = share-lone (r .share) (h .share);
+      share =
+          share-two 3000 600 oneDowel p 1 0 one-some one-every 9999 (r .share)
+          (record { number = lit≤ tt; several = λ m. absurd (omega arith) }) (λ q. not-le-of-lt (lit< tt) (q .number)) (h .share);
     }
 
-star-504 : Holds (record { bytes = recordOf pairHeader membersB dowelB (pairPositions 248 1) pairLoads; prints = noRefusal })
-star-504 r j = record { verdict = λ e. no-refusal (r .usage) (sym (j .accepted accepted-504 .verdict) ∙ e); number = j .number ∙ accepted-504 }
+star-504 : Holds (star 9)
+star-504 r j =
+    let a = ap (λ (f : Fault). f .number) (refusal-at 9) in
+    record { verdict = λ e. no-refusal (r .usage) (sym (j .accepted a .verdict) ∙ e); number = j .number ∙ a }
 
--- every report for which the claim holds on a starred joint's bytes says what 01 prints of it
 pub stars : AllHold starred
 stars = (
   star-B,
@@ -463,16 +424,16 @@ stars = (
     (
       star-27000,
       (
-        refused-row _ (fault 10 1 1 2) refused-599 (λ e. omega arith),
+        refused-row _ _ (refusal-at 3) (λ e. omega arith),
         (
-          refused-row _ (fault 11 2 2 0) refused-1439 (λ e. omega arith),
+          refused-row _ _ (refusal-at 4) (λ e. omega arith),
           (
-            refused-row _ (fault 12 1 3 0) refused-719 (λ e. omega arith),
+            refused-row _ _ (refusal-at 5) (λ e. omega arith),
             (
               star-200,
               (
-                refused-row _ (fault 7 0 0 0) refused-199 (λ e. omega arith),
-                (star-lone, (star-504, (refused-row _ (fault 10 1 1 2) refused-503 (λ e. omega arith), tt))),
+                refused-row _ _ (refusal-at 7) (λ e. omega arith),
+                (star-lone, (star-504, (refused-row _ _ (refusal-at 10) (λ e. omega arith), tt))),
               ),
             ),
           ),

@@ -2,7 +2,9 @@ pub mod Layout
 pub mod Refusal
 pub mod Order
 pub mod Stage
+pub mod Design
+pub mod DesignOf
 pub mod Use
+pub mod Returned
 pub mod Claim
 pub mod Starred
-pub mod Workings

@@ -19,8 +19,10 @@ use Rattle.joint.specs.declared.Positions.{Positions}
 use Rattle.joint.specs.declared.Loads.{Loads}
 use Rattle.joint.specs.declared.Values.{Values}
 use Rattle.joint.specs.declared.Outcome.{Outcome}
-use Rattle.spacing.specs.declared.verdict.Member.{Member as Spaced}
-use Rattle.spacing.specs.declared.verdict.Frame.{Frame}
+use Rattle.spacing.specs.declared.view.Which.{Which}
+use Rattle.spacing.specs.declared.view.Which.the-variants.{Member1, Member2}
+use Rattle.spacing.specs.declared.view.Piece.{Piece}
+use Rattle.spacing.specs.declared.view.Frame.{Frame}
 use Rattle.spacing.specs.declared.verdict.Fault.{Fault}
 use Rattle.spacing.specs.Spacing.{along, across, frameOf}
 use Rattle.spacing.specs.Verdict.{fault, pairFault, endFault, edgeFault, spacingVerdict}
@@ -135,15 +137,18 @@ abbrev pub refusal9 : List ℕ → Bool
 refusal9 s = noForce (valuesOf s .loads)
 
 -- ---- The drill plan, of member k, 1 or 2, by the rules of 'Spacing'
-abbrev pub spaced : Member → Spaced
+abbrev pub spaced : Member → Piece
 spaced m =
     record { grain = m .grain; x0 = m .outline .x0; y0 = m .outline .y0; x1 = m .outline .x1; y1 = m .outline .y1 }
 
 abbrev pub memberOf : ℕ → Values → Member
 memberOf k v = cond (eqb k 1) (v .members .member1) (v .members .member2)
 
+abbrev pub which : ℕ → Which
+which k = cond (eqb k 1) Member1 Member2
+
 abbrev pub frame : ℕ → Values → Frame
-frame k v = frameOf k (spaced (memberOf k v)) (v .loads .fx) (v .loads .fy)
+frame k v = frameOf (which k) (spaced (memberOf k v)) (v .loads .fx) (v .loads .fy)
 
 -- the dowels' coordinates along and across the member's grain
 abbrev pub alongs : ℕ → Values → List ℤ

@@ -6,6 +6,7 @@ use lib.ListN.{set}
 use Rattle.joint.specs.declared.report.Verdict.{Verdict}
 use Rattle.joint.specs.declared.report.Verdict.the-variants.{Fits, Overloaded, Refused}
 use Rattle.joint.specs.declared.report.Report.{Report}
+use Rattle.joint.specs.Claim.{Judged}
 
 -- Joint B: p = 2, C24 throughout, grain x, t1 600, t2 800; member 1 x -840 to 20,000, member 2 x -20,000 to 1,440, both y -360 to
 -- 720; d = 12, S235; dowels (0,0), (600,0), (0,360), (600,360); class 1, medium; force (20,000, 0).
@@ -130,3 +131,8 @@ starred =
     ∷ record { bytes = recordOf pairHeader membersB dowelB (pairPositions 248 1) pairLoads; prints = noRefusal }
     ∷ record { bytes = recordOf pairHeader membersB dowelB (pairPositions 247 1) pairLoads; prints = refused 10 1 1 2 }
     ∷ []
+
+-- every report for which the claim holds on a starred joint's bytes says what 01 prints of it
+abbrev pub AllHold : List Starred → Type 0
+AllHold [] = Unit {0}
+AllHold (s ∷ ss) = ((r : Report) → Judged (s .bytes) r → SaysSo (s .prints) r) × AllHold ss

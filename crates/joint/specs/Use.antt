@@ -1,83 +1,16 @@
--- Document 01, 'Rows, share and use': what of a record the figures depend on, and the brackets on them, in 01's order.
--- Forces are in newtons, lengths in tenths of a millimetre, d in millimetres.
-use Prim.Native.Nat.{ℕ, _+_, _*_, _<_}
+-- Document 01, 'Rows, share and use': 'enough', the brackets on C, E and U and the verdict, over what the formulas take of a joint, in
+-- 01's order.
+use Prim.Native.Nat.{ℕ, _+_, _<_}
+use mathlib.Core.Path.{_≡_}
 use mathlib.Core.Bool.{cond}
-use lib.Dec.{eqb}
-use lib.IntN.{natAbs}
+use lib.Dec.{leb}
 use Rattle.strength.specs.Fraction.{Fraction, _over_, whole, _⊕_, _⊗_, _⊘_, _↑_, _≼_, Proper}
-use Rattle.strength.specs.Tables.{densityOf, steelOf, kmodOf, k90Of}
 use Rattle.strength.specs.Shear.{AtMostR, AboveR}
-use Rattle.strength.specs.declared.tables.Listed.{Listed}
-use Rattle.strength.specs.declared.tables.Listed.the-variants.{Value, Unlisted}
-use Rattle.strength.specs.declared.plane.Member as strengthMember
-use Rattle.strength.specs.declared.plane.Plane.{Plane}
-use Rattle.spacing.specs.Spacing.{along, across}
-use Rattle.group.specs.Rows.{rowNumber, rowDistance, NotAbove, NotBelow, SomeRowAbove, RowShareBracket}
-use Rattle.group.specs.Rows.{EveryRow as EveryRowOf}
-use Rattle.joint.specs.Refusal.{spaced}
-use Rattle.joint.specs.declared.Member.{Member}
-use Rattle.joint.specs.declared.Values.{Values}
-
--- ---- Strength of a shear plane: the record's values in it
--- what a table has at a code; every code of an accepted record is listed
-abbrev pub listed : Listed → ℕ
-listed (Value n) = n
-listed Unlisted = 0
-
--- fx² + fy²
-abbrev pub squaredForce : Values → ℕ
-squaredForce v =
-    natAbs (v .loads .fx) * natAbs (v .loads .fx) + natAbs (v .loads .fy) * natAbs (v .loads .fy)
-
--- c, 'the size (never negative) of the whole force's component along the grain'
-abbrev pub forceAlong : Values → Member → ℕ
-forceAlong v m = natAbs (along (m .grain) (v .loads .fx) (v .loads .fy))
-
--- a member in a shear plane: cos²α is the squared component along over fx² + fy²
-abbrev pub planeMember : Values → Member → strengthMember.Member
-planeMember v m = record {
-  density = listed (densityOf (m .class));
-  k90 = k90Of (v .dowel .diameter);
-  along = forceAlong v m * forceAlong v m;
-  total = squaredForce v;
-  thickness = m .thickness;
-}
-
-unfoldable pub planeOf : Values → Plane
-planeOf v = record {
-  side = planeMember v (v .members .member1);
-  other = planeMember v (v .members .member2);
-  diameter = v .dowel .diameter;
-  steel = listed (steelOf (v .dowel .steel));
-  planes = v .members .planes;
-}
-
--- ---- Rows
--- n and a1 of the row of dowel i, counted from 0
-abbrev pub rowOf : Values → Member → ℕ → ℕ
-rowOf v m i = rowNumber (across (m .grain) (v .positions .x) (v .positions .y)) (v .positions .n) i
-
-abbrev pub spacingOf : Values → Member → ℕ → ℕ
-spacingOf v m i =
-    rowDistance (along (m .grain) (v .positions .x) (v .positions .y)) (across (m .grain) (v .positions .x) (v .positions .y))
-    (v .positions .n) i
-
--- a fraction is not below, or not above, the effective number of the row of dowel i
-abbrev pub NotBelowRow : Values → Member → ℕ → Fraction → Type 0
-NotBelowRow v m i e = NotBelow (v .dowel .diameter) (rowOf v m i) (spacingOf v m i) e
-
-abbrev pub NotAboveRow : Values → Member → ℕ → Fraction → Type 0
-NotAboveRow v m i e = NotAbove (v .dowel .diameter) (rowOf v m i) (spacingOf v m i) e
-
--- ---- Use
--- h, 'kmod in hundredths'
-abbrev pub kmod : Values → ℕ
-kmod v = listed (kmodOf (v .loads .«service_class») (v .loads .duration))
-
--- 'T = N p, but p/2 for one dowel, which counts half'
-abbrev pub countedPlanes : Values → Fraction
-countedPlanes v =
-    cond (eqb (v .positions .n) 1) (v .members .planes over 2) (whole (v .positions .n * v .members .planes))
+use Rattle.group.specs.Rows.{NotBelow, EveryRow, SomeRowAbove}
+use Rattle.joint.specs.declared.report.Verdict.{Verdict}
+use Rattle.joint.specs.declared.report.Verdict.the-variants.{Fits, Overloaded}
+use Rattle.joint.specs.declared.report.Report.{Report}
+use Rattle.joint.specs.Design.{Part, Design, Each, Some}
 
 -- above 0
 pub record Above0 (u : Fraction) : Type 0 where
@@ -92,46 +25,54 @@ planeForce g T h v = whole 130 ⊗ g ⊘ (T ⊗ whole h ⊗ v)
 abbrev pub rowForce : ℕ → ℕ → Fraction → Fraction → ℕ → Fraction → Fraction
 rowForce c n e T h v = whole 130 ⊗ whole c ⊗ whole n ⊘ (e ⊗ T ⊗ whole h ⊗ v)
 
--- 'for each row .. and every e > 0 not below the effective number, 130 c n/(e T h v) ≤ R'
-abbrev pub RowsEnough : Values → Member → Fraction → Type 0
-RowsEnough v m u =
-    (i : ℕ) → i < v .positions .n → (e : Fraction) → Above0 e → NotBelowRow v m i e
-    → AtMostR (planeOf v) (rowForce (forceAlong v m) (rowOf v m i) e (countedPlanes v) (kmod v) u)
+-- 'for each .. row .. and every e > 0 not below the effective number, 130 c n/(e T h v) ≤ R'
+abbrev pub RowsEnough : Design → Fraction → Part → Type 0
+RowsEnough j v m =
+    (n a1 : ℕ) → m .row n a1 → (e : Fraction) → Above0 e → NotBelow (j .diameter) n a1 e
+    → AtMostR (j .plane) (rowForce (m .along) n e (j .counted) (j .kmod) v)
 
 -- 'A fraction v > 0 is enough if, for every fraction g ≥ 0 with g² ≤ fx² + fy², 130 g/(T h v) ≤ R; and, for each member and row, ..'
-pub record Enough (v : Values) (u : Fraction) : Type 0 where
-  pub above0 : Above0 u
+pub record Enough (j : Design) (v : Fraction) : Type 0 where
+  pub above0 : Above0 v
   pub total :
-      (g : Fraction) → Proper g → (g ↑ 2) ≼ whole (squaredForce v)
-      → AtMostR (planeOf v) (planeForce g (countedPlanes v) (kmod v) u)
-  pub rows1 : RowsEnough v (v .members .member1) u
-  pub rows2 : RowsEnough v (v .members .member2) u
+      (g : Fraction) → Proper g → (g ↑ 2) ≼ whole (j .squaredForce)
+      → AtMostR (j .plane) (planeForce g (j .counted) (j .kmod) v)
+  pub rows : Each (RowsEnough j v) (j .members)
 
 -- 'U/10,000 is enough, and U ≤ 10,050 v + 2 for every enough v'
 abbrev pub WithinUse : ℕ → Fraction → Type 0
-WithinUse U u = whole U ≼ (whole 10050 ⊗ u ⊕ whole 2)
+WithinUse U v = whole U ≼ (whole 10050 ⊗ v ⊕ whole 2)
 
-pub record UseBracket (v : Values) (U : ℕ) : Type 0 where
-  pub enough : Enough v (U over 10000)
-  pub least : (u : Fraction) → Enough v u → WithinUse U u
+pub record UseBracket (j : Design) (U : ℕ) : Type 0 where
+  pub enough : Enough j (U over 10000)
+  pub least : (v : Fraction) → Enough j v → WithinUse U v
+
+-- 'Verdict: fits if U ≤ 10,000, else overloaded.'
+abbrev pub verdictOf : ℕ → Verdict
+verdictOf U = cond (leb U 10000) Fits Overloaded
 
 -- 'C ≤ R < C + 2'
-pub record CapacityBracket (v : Values) (C : ℕ) : Type 0 where
-  pub low : AtMostR (planeOf v) (whole C)
-  pub high : AboveR (planeOf v) (whole (C + 2))
+pub record CapacityBracket (j : Design) (C : ℕ) : Type 0 where
+  pub low : AtMostR (j .plane) (whole C)
+  pub high : AboveR (j .plane) (whole (C + 2))
 
--- 'in every row E n/10,000 is not above the effective number, and in some row (E + 2) n/10,000 is above it': rows of both members
-abbrev pub EveryRow : Values → Member → ℕ → Type 0
-EveryRow v m E =
-    EveryRowOf (v .dowel .diameter) (along (m .grain) (v .positions .x) (v .positions .y))
-    (across (m .grain) (v .positions .x) (v .positions .y)) (v .positions .n) E
+-- 'in every row E n/10,000 is not above the effective number, and in some row (E + 2) n/10,000 is above it': rows of all members
+pub record ShareBracket (j : Design) (E : ℕ) : Type 0 where
+  pub every : Each (λ m. EveryRow (m .row) (j .diameter) E) (j .members)
+  pub some : Some (λ m. SomeRowAbove (m .row) (j .diameter) (E + 2)) (j .members)
 
-abbrev pub SomeRow : Values → Member → ℕ → Type 0
-SomeRow v m E =
-    SomeRowAbove (v .dowel .diameter) (along (m .grain) (v .positions .x) (v .positions .y))
-    (across (m .grain) (v .positions .x) (v .positions .y)) (v .positions .n) (E + 2)
+-- demand 3: the brackets on C, E and U and the verdict together
+pub record Answered (j : Design) (r : Report) : Type 0 where
+  pub capacity : CapacityBracket j (r .capacity)
+  pub share : ShareBracket j (r .share)
+  pub usage : UseBracket j (r .usage)
+  pub verdict : r .verdict ≡ verdictOf (r .usage)
 
-abbrev pub ShareBracket : Values → ℕ → Type 0
-ShareBracket v E =
-    RowShareBracket (spaced (v .members .member1)) (spaced (v .members .member2)) (v .dowel .diameter) (v .positions .x)
-    (v .positions .y) (v .positions .n) E
+-- What it says: 'enough' is upward closed, met by some v and not by every v above 0; 'fits' means that every v from 1 on is enough,
+-- 'overloaded' that none below 9,999/10,050 is.
+pub record Means (j : Design) (r : Report) : Type 0 where
+  pub upward : (u v : Fraction) → Above0 v → u ≼ v → Enough j u → Enough j v
+  pub some : Enough j (r .usage over 10000)
+  pub not-all : (v : Fraction) × Above0 v × (Enough j v → ⊥)
+  pub fits : r .verdict ≡ Fits → (v : Fraction) → Proper v → whole 1 ≼ v → Enough j v
+  pub overloaded : r .verdict ≡ Overloaded → (v : Fraction) → Enough j v → 9999 over 10050 ≼ v

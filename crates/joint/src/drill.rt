@@ -2,16 +2,18 @@
 use crate::Member;
 use crate::Values;
 use spacing::verdict;
+use spacing::verdict::Fault;
+use spacing::view::Piece;
 ghost use mathlib.Core.Path.{_≡_};
 ghost use Rattle.spacing.specs.Spacing.{Given};
 ghost use Rattle.joint.specs.Refusal.{spaced, drillFault};
 
 // A member as the spacing rules take it.
-pub(crate) fn spaced(m: Member) -> verdict::Member
+pub(crate) fn spaced(m: Member) -> Piece
     ensures { λ r. ⌜ r ≡ spaced m ⌝ }
 {
     let outline = m.outline;
-    verdict::Member {
+    Piece {
         grain: m.grain,
         x0: outline.x0,
         y0: outline.y0,
@@ -21,15 +23,13 @@ pub(crate) fn spaced(m: Member) -> verdict::Member
 }
 
 // The first fault of values that passed refusals 1 to 9.
-pub(crate) fn first_fault(v: Values) -> verdict::Fault
+pub(crate) fn first_fault(v: Values) -> Fault
     requires { ⌜ Given (v .dowel .diameter) (v .loads .fx) (v .loads .fy) (v .positions .n) ⌝ }
     ensures { λ r. ⌜ r ≡ drillFault v ⌝ }
 {
     let members = v.members;
-    let member1 = members.member1;
-    let member2 = members.member2;
-    let side = spaced(member1);
-    let middle = spaced(member2);
+    let member1 = spaced(members.member1);
+    let member2 = spaced(members.member2);
     let dowel = v.dowel;
     let d = dowel.diameter as u64;
     let loads = v.loads;
@@ -37,5 +37,5 @@ pub(crate) fn first_fault(v: Values) -> verdict::Fault
     let x = positions.x;
     let y = positions.y;
     let n = positions.n;
-    verdict::spacing_verdict(side, middle, d, loads.fx, loads.fy, x, y, n)
+    verdict::spacing_verdict(member1, member2, d, loads.fx, loads.fy, x, y, n)
 }

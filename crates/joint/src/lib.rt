@@ -3,8 +3,7 @@ ghost use mathlib.Core.Path.{_≡_};
 ghost use Rattle.spacing.specs.Verdict.{fault};
 ghost use Rattle.joint.specs.Refusal.{refusedBy, outcomeOf};
 ghost use Rattle.joint.specs.Stage.{stageNumber};
-ghost use Rattle.joint.specs.Claim.{Judged};
-ghost use Rattle.joint.specs.Workings.{reportOf};
+ghost use Rattle.joint.specs.Claim.{Reported};
 
 mod demand;
 mod drill;
@@ -170,8 +169,7 @@ pub fn refusal(bytes: &[u8]) -> Outcome
 
 // Judges a record of any length: its refusal, or the verdict with the figures.
 pub fn judge(bytes: &[u8]) -> Report
-    ensures { λ r. ⌜ Judged (now (bytes .entry)) r ⌝ }
-    ensures { λ r. ⌜ r ≡ reportOf (now (bytes .entry)) ⌝ }
+    ensures { λ r. ⌜ Reported (now (bytes .entry)) r ⌝ }
 {
     let outcome = refusal(bytes);
     if outcome.number != 0 {

@@ -1,5 +1,4 @@
 -- The searches by whole limits find the faults of Table 8.
--- Assumes nothing.
 use mathlib.Core.Path.{_≡_, refl, sym, ap, ap₂, fun-ext, _∙_}
 use mathlib.Core.Bool.{Bool, true, false, cond, not, _&&_, _||_}
 use mathlib.Core.List.{List}
@@ -9,38 +8,29 @@ use native.Mathlib.Omega.{arith}
 use lib.Dec.{leb, ltb, eqb}
 use lib.IntN.{ℤ, pos, negℤ, natAbs, _-ℤ_}
 use lib.Signed.{leZ}
-use Rattle.spacing.specs.declared.verdict.Member.{Member}
-use Rattle.spacing.specs.declared.verdict.Frame.{Frame}
+use Rattle.spacing.specs.declared.view.Which.{Which}
+use Rattle.spacing.specs.declared.view.Which.the-variants.{Member1, Member2}
+use Rattle.spacing.specs.declared.view.Piece.{Piece}
+use Rattle.spacing.specs.declared.view.Frame.{Frame}
+use Rattle.spacing.specs.declared.view.View.{View}
 use Rattle.spacing.specs.declared.verdict.Fault.{Fault}
 use Rattle.spacing.specs.Search.{firstFrom, partner, firstPair}
-use Rattle.spacing.specs.Spacing.{
-  along,
-  across,
-  forceIn,
-  frameOf,
-  square,
-  squaredForce,
-  place,
-  distance,
-  tooClose,
-  endTooNear,
-  Components,
-}
+use Rattle.spacing.specs.Spacing.{along, across, forceIn, viewOf, square, squaredForce, place, distance, tooClose, endTooNear, Components}
 use Rattle.spacing.specs.Limits.{PairLimit, EndLimit, closeBy, outside}
-use Rattle.spacing.specs.Verdict.{fault, oneDowel, pairFault, endFault, edgeFault, orElse, verdictIn, memberVerdict}
+use Rattle.spacing.specs.Verdict.{fault, oneDowel, pairFault, endFault, edgeFault, orElse}
 use Rattle.spacing.proofs.Integers.{natAbs-neg}
 
 -- ---- a whole limit tests what the rule tests
 pub close-same :
-    (v : Frame) (d along : ℕ) (a b : List ℤ) → PairLimit d (square (v .force)) (squaredForce v) along →
+    (v : Frame) (d along : ℕ) (a b : List ℤ) → PairLimit d (square (v .force)) (squaredForce (v .force) (v .sideways)) along →
     closeBy along (30 * d) a b ≡ tooClose v d a b
 close-same v d along a b l =
     fun-ext λ i. fun-ext λ j. ap (λ t. not (t || leb (30 * d) (distance b i j))) (sym (l .decides (distance a i j)))
 
 end-same :
     (v : Frame) (d low high : ℕ) (a : List ℤ) →
-    EndLimit (leZ (pos 1) (negℤ (v .force))) d (square (v .sideways)) (squaredForce v) low →
-    EndLimit (leZ (pos 1) (v .force)) d (square (v .sideways)) (squaredForce v) high →
+    EndLimit (leZ (pos 1) (negℤ (v .force))) d (square (v .sideways)) (squaredForce (v .force) (v .sideways)) low →
+    EndLimit (leZ (pos 1) (v .force)) d (square (v .sideways)) (squaredForce (v .force) (v .sideways)) high →
     outside (v .low) (v .high) low high a ≡ endTooNear v d a
 end-same v d low high a l h =
     fun-ext λ i. ap₂ (λ s t. not (s && t)) (sym (l .decides (place a i -ℤ v .low))) (sym (h .decides (v .high -ℤ place a i)))
@@ -69,8 +59,8 @@ no-pair member v d a b n i test s e h = rw (← s, ← e) (passed i n _ _ h)
 pub end-found :
     (member : ℕ) (v : Frame) (d under over : ℕ) (a : List ℤ) (n i : ℕ) (r : Fault) (low high : ℤ) →
     i ≡ firstFrom (outside low high under over a) 0 n → low ≡ v .low → high ≡ v .high →
-    EndLimit (leZ (pos 1) (negℤ (v .force))) d (square (v .sideways)) (squaredForce v) under →
-    EndLimit (leZ (pos 1) (v .force)) d (square (v .sideways)) (squaredForce v) over →
+    EndLimit (leZ (pos 1) (negℤ (v .force))) d (square (v .sideways)) (squaredForce (v .force) (v .sideways)) under →
+    EndLimit (leZ (pos 1) (v .force)) d (square (v .sideways)) (squaredForce (v .force) (v .sideways)) over →
     r ≡ oneDowel 11 member i n → r ≡ endFault member v d a n
 unfolding endFault
 end-found member v d under over a n i r low high e p q l h o =
@@ -92,21 +82,16 @@ the-first r f g e h = rw (← e, ne-eqb (r .number) 0 h)
 pub the-second : (r f s g : Fault) → r ≡ f → r .number ≡ 0 → s ≡ g → s ≡ orElse f g
 the-second r f s g e h p = rw (← e, eq-eqb (r .number) 0 h) p
 
--- a verdict of the same member under the same force
-pub same-verdict :
-    (r : Fault) (k k′ : ℕ) (m m′ : Member) (d : ℕ) (fx fx′ fy fy′ : ℤ) (x y : List ℤ) (n : ℕ) →
-    r ≡ memberVerdict k m d fx fy x y n → k ≡ k′ → m ≡ m′ → fx ≡ fx′ → fy ≡ fy′ →
-    r ≡ memberVerdict k′ m′ d fx′ fy′ x y n
-same-verdict r k k′ m m′ d fx fx′ fy fy′ x y n e p q s t =
-    e ∙ ap₂ (λ i j. memberVerdict i j d fx fy x y n) p q ∙ ap₂ (λ f g. memberVerdict k′ m′ d f g x y n) s t
-
 -- ---- a member's own directions
-force-size : (member : ℕ) (z : ℤ) → natAbs (forceIn member z) ≡ natAbs z
-force-size member z = go (eqb member 1)
-  where
-    go : (b : Bool) → natAbs (cond b (negℤ z) z) ≡ natAbs z
-    go true = natAbs-neg z
-    go false = refl
+force-size : (which : Which) (z : ℤ) → natAbs (forceIn which z) ≡ natAbs z
+force-size Member1 z = natAbs-neg z
+force-size Member2 z = refl
+
+-- the size of the force along is that of the record's force along the grain
+pub view-force :
+    (which : Which) (m : Piece) (fx fy : ℤ) (x y : List ℤ) (v : View) → v ≡ viewOf which m fx fy x y →
+    natAbs (v .frame .force) ≡ natAbs (along (m .grain) fx fy)
+view-force which m fx fy x y v e = ap (λ (w : View). natAbs (w .frame .force)) e ∙ force-size which (along (m .grain) fx fy)
 
 turned-components : (d : ℕ) (b : Bool) (fx fy : ℤ) → Components d fx fy → Components d (cond b fx fy) (cond b fy fx)
 turned-components d true fx fy h = h
@@ -118,32 +103,11 @@ turned-components d false fx fy h = record {
 }
 
 -- the force in a member is within the limits of the record's force
-pub frame-components :
-    (member d : ℕ) (m : Member) (fx fy : ℤ) (v : Frame) → v ≡ frameOf member m fx fy → Components d fx fy →
-    Components d (v .force) (v .sideways)
-frame-components member d m fx fy v e h =
+pub view-components :
+    (which : Which) (d : ℕ) (m : Piece) (fx fy : ℤ) (x y : List ℤ) (v : View) → v ≡ viewOf which m fx fy x y →
+    Components d fx fy → Components d (v .frame .force) (v .frame .sideways)
+view-components which d m fx fy x y v e h =
     let k = turned-components d (eqb (m .grain) 0) fx fy h in
-    rw e (record {
-      thick = k .thick;
-      x-small = rw (force-size member (along (m .grain) fx fy)) (k .x-small);
-      y-small = rw (force-size member (across (m .grain) fx fy)) (k .y-small);
-      some = rw (force-size member (along (m .grain) fx fy), force-size member (across (m .grain) fx fy)) (k .some);
-    })
-
-pub grain-along-x :
-    (member : ℕ) (m : Member) (d : ℕ) (fx fy : ℤ) (x y : List ℤ) (n : ℕ) → m .grain ≡ 0 →
-    verdictIn member (frameOf member m fx fy) d x y n ≡ memberVerdict member m d fx fy x y n
-unfolding memberVerdict
-grain-along-x member m d fx fy x y n h =
-    ap₂ (λ a b. verdictIn member (frameOf member m fx fy) d a b n)
-    (sym (ap (λ t. cond t x y) (eq-eqb (m .grain) 0 h)))
-    (sym (ap (λ t. cond t y x) (eq-eqb (m .grain) 0 h)))
-
-pub grain-along-y :
-    (member : ℕ) (m : Member) (d : ℕ) (fx fy : ℤ) (x y : List ℤ) (n : ℕ) → (m .grain ≡ 0 → ⊥) →
-    verdictIn member (frameOf member m fx fy) d y x n ≡ memberVerdict member m d fx fy x y n
-unfolding memberVerdict
-grain-along-y member m d fx fy x y n h =
-    ap₂ (λ a b. verdictIn member (frameOf member m fx fy) d a b n)
-    (sym (ap (λ t. cond t x y) (ne-eqb (m .grain) 0 h)))
-    (sym (ap (λ t. cond t y x) (ne-eqb (m .grain) 0 h)))
+    let f = force-size which (along (m .grain) fx fy) in
+    let s = force-size which (across (m .grain) fx fy) in
+    rw e (record { thick = k .thick; x-small = rw f (k .x-small); y-small = rw s (k .y-small); some = rw (f, s) (k .some) })

@@ -1,11 +1,9 @@
 -- Differences of signed numbers: how large they are, and how they are read.
--- Assumes nothing.
 use mathlib.Core.Path.{_≡_, refl, sym, ap, ap₂, _∙_}
 use mathlib.Core.Bool.{Bool, true, false, cond, true≢false, false≢true}
 use Prim.Native.Nat.{ℕ, zero, suc, _+_, _-_, _≤_}
 use native.Mathlib.Nat.{lt-trans}
 use native.Mathlib.Omega.{arith}
-use borrow.Author.Tests.{ltb-true}
 use lib.Dec.{T, ltb, leb, lit<, leb·zero}
 use lib.IntN.{ℤ, pos, negsuc, negℤ, natAbs, subℕ, _+ℤ_, _-ℤ_, negℤ-+ℤ, negℤ-negℤ, +ℤ-comm, +ℤ-idl, +ℤ-invr, -ℤ-+ℤ-cancel}
 use lib.Signed.{mag, nonNeg, leZ}
@@ -111,6 +109,10 @@ opposite-fits z h = record { sfits = rw (opposite z) (omega (arith, neg-mag z)) 
 pub small-fits : (z : ℤ) → natAbs z ≤ 1000000 → SFits w32 z
 small-fits z h = record { sfits = omega (arith, mag-natAbs z) }
 
+-- and reads as it was
+pub small-read : (z : ℤ) → natAbs z ≤ 1000000 → toZ w32 (ofZ w32 z) ≡ z
+small-read z h = toZ-ofZ (small-fits z h)
+
 -- ---- two places at no distance are one
 none-is-zero : (z : ℤ) → natAbs z ≡ 0 → z ≡ pos 0
 none-is-zero (pos n) h = ap pos h
@@ -121,19 +123,3 @@ same-place p q h = sym (-ℤ-+ℤ-cancel p q) ∙ ap (λ z. z +ℤ q) (none-is-z
 
 pub no-distance : (p : ℤ) → natAbs (p -ℤ p) ≡ 0
 no-distance p = ap natAbs (+ℤ-invr p)
-
-subℕ-size : (a b : ℕ) → natAbs (subℕ a b) ≤ a + b
-subℕ-size a b = go (ltb a b) refl
-  where
-    go : (t : Bool) → ltb a b ≡ t → natAbs (cond t (negsuc (b - suc a)) (pos (a - b))) ≤ a + b
-    go true h = omega (arith, ltb-true a b h)
-    go false h = omega arith
-
--- a distance is at most both sizes together
-pub difference-size : (a b : ℤ) → natAbs (a -ℤ b) ≤ natAbs a + natAbs b
-difference-size (pos a) (pos zero) = omega arith
-difference-size (pos a) (pos (suc b)) = omega (arith, subℕ-size a (suc b))
-difference-size (pos a) (negsuc b) = omega arith
-difference-size (negsuc a) (pos zero) = omega (arith, subℕ-size 0 (suc a))
-difference-size (negsuc a) (pos (suc b)) = omega arith
-difference-size (negsuc a) (negsuc b) = omega (arith, subℕ-size (suc b) (suc a))

@@ -1,5 +1,4 @@
 -- Laws of the search: a verdict names the first fault in 01's order, and none where all pass.
--- Assumes nothing.
 use mathlib.Core.Path.{_≡_, refl}
 use mathlib.Core.Bool.{Bool, true, false, cond}
 use mathlib.Core.List.{List}
@@ -9,15 +8,17 @@ use native.Mathlib.Decide.{decLe, decLt, ℕ-discrete}
 use native.Mathlib.Omega.{arith}
 use borrow.Author.Tests.{lt-ltb, le-ltb, ltb-true, ltb-false, eq-eqb, ne-eqb}
 use lib.IntN.{ℤ}
-use Rattle.spacing.specs.declared.verdict.Member.{Member}
-use Rattle.spacing.specs.declared.verdict.Frame.{Frame}
+use Rattle.spacing.specs.declared.view.Which.{Which}
+use Rattle.spacing.specs.declared.view.Which.the-variants.{Member1, Member2}
+use Rattle.spacing.specs.declared.view.Piece.{Piece}
+use Rattle.spacing.specs.declared.view.Frame.{Frame}
 use Rattle.spacing.specs.declared.verdict.Fault.{Fault}
 use Rattle.spacing.specs.Search.{firstFrom, partner, firstPair, hasPartner}
 use Rattle.spacing.specs.Spacing.{tooClose, endTooNear, edgeTooNear}
-use Rattle.spacing.specs.Verdict.{orElse, pairFault, endFault, edgeFault, verdictIn, memberVerdict, spacingVerdict}
+use Rattle.spacing.specs.Verdict.{orElse, numberOf, pairFault, endFault, edgeFault, verdictIn, memberVerdict, spacingVerdict}
 use Rattle.spacing.specs.Says.{FirstPair, NoPair, FirstOne, NoOne, MemberSays, Says, JointSays}
 use Rattle.spacing.specs.Says.MemberSays.{close, end, edge, passes}
-use Rattle.spacing.specs.Says.JointSays.{side, middle}
+use Rattle.spacing.specs.Says.JointSays.{member1, member2}
 
 -- r is the first of k, k + 1, .. below the end at which the test holds, or the end
 record Finds (test : ℕ → Bool) (k e r : ℕ) : Type 0 where
@@ -141,19 +142,19 @@ module _ (member : ℕ) (v : Frame) (d : ℕ) (a b : List ℤ) (n : ℕ) where
   verdict-says = says-pair (decLt (firstPair (tooClose v d a b) n) n)
 
 pub member-says :
-    (member : ℕ) (m : Member) (d : ℕ) (fx fy : ℤ) (x y : List ℤ) (n : ℕ) →
-    Says member m d fx fy x y n (memberVerdict member m d fx fy x y n)
+    (which : Which) (m : Piece) (d : ℕ) (fx fy : ℤ) (x y : List ℤ) (n : ℕ) →
+    Says which m d fx fy x y n (memberVerdict which m d fx fy x y n)
 unfolding memberVerdict
-member-says member m d fx fy x y n = verdict-says member _ d _ _ n
+member-says which m d fx fy x y n = verdict-says (numberOf which) _ d _ _ n
 
-module _ (m₁ m₂ : Member) (d : ℕ) (fx fy : ℤ) (x y : List ℤ) (n : ℕ) where
-  by-side :
-      (f g : Fault) → Dec (f .number ≡ 0) → Says 1 m₁ d fx fy x y n f → Says 2 m₂ d fx fy x y n g →
+module _ (m₁ m₂ : Piece) (d : ℕ) (fx fy : ℤ) (x y : List ℤ) (n : ℕ) where
+  by-member1 :
+      (f g : Fault) → Dec (f .number ≡ 0) → Says Member1 m₁ d fx fy x y n f → Says Member2 m₂ d fx fy x y n g →
       JointSays m₁ m₂ d fx fy x y n (orElse f g)
-  by-side f g (yes h) p q = rw (eq-eqb (f .number) 0 h) (middle f g h p q)
-  by-side f g (no h) p q = rw (ne-eqb (f .number) 0 h) (side f h p)
+  by-member1 f g (yes h) p q = rw (eq-eqb (f .number) 0 h) (member2 f g h p q)
+  by-member1 f g (no h) p q = rw (ne-eqb (f .number) 0 h) (member1 f h p)
 
   pub spacing-says : JointSays m₁ m₂ d fx fy x y n (spacingVerdict m₁ m₂ d fx fy x y n)
   unfolding spacingVerdict
   spacing-says =
-      by-side _ _ (ℕ-discrete _ 0) (member-says 1 m₁ d fx fy x y n) (member-says 2 m₂ d fx fy x y n)
+      by-member1 _ _ (ℕ-discrete _ 0) (member-says Member1 m₁ d fx fy x y n) (member-says Member2 m₂ d fx fy x y n)

@@ -1,19 +1,8 @@
 -- A whole number decides each irrational limit of Table 8.
--- Assumes nothing.
 use mathlib.Core.Path.{_≡_, refl, sym, ap, _∙_}
 use mathlib.Core.Bool.{true, false, not, _&&_, and-false}
 use Prim.Native.Nat.{ℕ, zero, suc, _+_, _-_, _*_, _/_, _^_, _≤_, _<_, max}
-use native.Mathlib.Nat.{
-  lt-of-not-le,
-  not-le-of-lt,
-  mul-le-mul,
-  mul-le-mul-right,
-  mul-le-mul-left,
-  div-add-mod',
-  mod-lt,
-  div-le-self,
-  le-trans,
-}
+use native.Mathlib.Nat.{lt-of-not-le, not-le-of-lt, mul-le-mul, mul-le-mul-right, mul-le-mul-left, div-add-mod', mod-lt, div-le-self, le-trans}
 use native.Mathlib.Decide.{decLe}
 use native.Mathlib.Omega.{arith}
 use borrow.Author.Tests.{le-leb, lt-leb, le-ltb, lt-ltb, leb-true}
@@ -74,9 +63,6 @@ least-part-bound {k} {part} {total} {r} l h =
 -- a whole root is at most its number
 pub root-small : (w total r : ℕ) → SquareRoot (w / total) r → r ≤ w
 root-small w total r s = le-trans (le-trans (below-square r) (s .low)) (div-le-self w total)
-
-pub same-square : (r : ℕ) (z z′ : ℤ) → r ≡ square z → z ≡ z′ → r ≡ square z′
-same-square r z z′ h e = h ∙ ap square e
 
 -- the squares of the components of a force
 pub record Squares (f g : ℤ) : Type 0 where

@@ -5,11 +5,13 @@ use mathlib.Core.Path.{_≡_}
 use mathlib.Core.Bool.{Bool, true, false}
 use mathlib.Core.List.{List}
 use lib.IntN.{ℤ}
-use Rattle.spacing.specs.declared.verdict.Member.{Member}
-use Rattle.spacing.specs.declared.verdict.Frame.{Frame}
+use Rattle.spacing.specs.declared.view.Which.{Which}
+use Rattle.spacing.specs.declared.view.Which.the-variants.{Member1, Member2}
+use Rattle.spacing.specs.declared.view.Piece.{Piece}
+use Rattle.spacing.specs.declared.view.Frame.{Frame}
 use Rattle.spacing.specs.declared.verdict.Fault.{Fault}
 use Rattle.spacing.specs.Spacing.{along, across, frameOf, tooClose, endTooNear, edgeTooNear}
-use Rattle.spacing.specs.Verdict.{fault}
+use Rattle.spacing.specs.Verdict.{fault, numberOf}
 
 -- of n dowels, i and j are the first bad pair, first by i, then by j
 pub record FirstPair (bad : ℕ → ℕ → Bool) (n i j : ℕ) : Type 0 where
@@ -44,13 +46,13 @@ pub data MemberSays (member : ℕ) (v : Frame) (d : ℕ) (a b : List ℤ) (n : �
       MemberSays member v d a b n (fault 0 0 0 0)
 
 -- member 1 or 2 of a record
-abbrev pub Says : ℕ → Member → ℕ → ℤ → ℤ → List ℤ → List ℤ → ℕ → Fault → Type 0
-Says member m d fx fy x y n f =
-    MemberSays member (frameOf member m fx fy) d (along (m .grain) x y) (across (m .grain) x y) n f
+abbrev pub Says : Which → Piece → ℕ → ℤ → ℤ → List ℤ → List ℤ → ℕ → Fault → Type 0
+Says which m d fx fy x y n f =
+    MemberSays (numberOf which) (frameOf which m fx fy) d (along (m .grain) x y) (across (m .grain) x y) n f
 
 -- a fault of member 1; or member 1 passes and this is what member 2 says
-pub data JointSays (m₁ m₂ : Member) (d : ℕ) (fx fy : ℤ) (x y : List ℤ) (n : ℕ) : Fault → Type 0 where
-  side : (f : Fault) → (f .number ≡ 0 → ⊥) → Says 1 m₁ d fx fy x y n f → JointSays m₁ m₂ d fx fy x y n f
-  middle :
-      (f g : Fault) → f .number ≡ 0 → Says 1 m₁ d fx fy x y n f → Says 2 m₂ d fx fy x y n g →
+pub data JointSays (m₁ m₂ : Piece) (d : ℕ) (fx fy : ℤ) (x y : List ℤ) (n : ℕ) : Fault → Type 0 where
+  member1 : (f : Fault) → (f .number ≡ 0 → ⊥) → Says Member1 m₁ d fx fy x y n f → JointSays m₁ m₂ d fx fy x y n f
+  member2 :
+      (f g : Fault) → f .number ≡ 0 → Says Member1 m₁ d fx fy x y n f → Says Member2 m₂ d fx fy x y n g →
       JointSays m₁ m₂ d fx fy x y n g

@@ -7,8 +7,11 @@ use lib.ListN.{getD}
 use lib.Dec.{leb, eqb}
 use lib.IntN.{ℤ, pos, negℤ, natAbs, _-ℤ_}
 use lib.Signed.{leZ}
-use Rattle.spacing.specs.declared.verdict.Member.{Member}
-use Rattle.spacing.specs.declared.verdict.Frame.{Frame}
+use Rattle.spacing.specs.declared.view.Which.{Which}
+use Rattle.spacing.specs.declared.view.Which.the-variants.{Member1, Member2}
+use Rattle.spacing.specs.declared.view.Piece.{Piece}
+use Rattle.spacing.specs.declared.view.Frame.{Frame}
+use Rattle.spacing.specs.declared.view.View.{View}
 
 -- 'Along' is measured in a member's grain direction, 'across' at right angles. Grain 0 is along x, 1 along y (01, 'The record').
 abbrev pub along : {A : Type 0} → ℕ → A → A → A
@@ -18,27 +21,32 @@ abbrev pub across : {A : Type 0} → ℕ → A → A → A
 across grain x y = cond (eqb grain 0) y x
 
 -- The dowels put (fx, fy) into member 2. Member 1 gets the opposite.
-abbrev pub forceIn : ℕ → ℤ → ℤ
-forceIn member f = cond (eqb member 1) (negℤ f) f
+abbrev pub forceIn : Which → ℤ → ℤ
+forceIn Member1 f = negℤ f
+forceIn Member2 f = f
 
--- What a member measures along and across its grain: its ends, its edges and the force in it.
-abbrev pub frameOf : ℕ → Member → ℤ → ℤ → Frame
-frameOf member m fx fy = record {
+-- What a member measures along and across its grain: its ends, its edges and the force in it; and the dowels' coordinates.
+abbrev pub frameOf : Which → Piece → ℤ → ℤ → Frame
+frameOf which m fx fy = record {
   low = along (m .grain) (m .x0) (m .y0);
   high = along (m .grain) (m .x1) (m .y1);
   left = across (m .grain) (m .x0) (m .y0);
   right = across (m .grain) (m .x1) (m .y1);
-  force = forceIn member (along (m .grain) fx fy);
-  sideways = forceIn member (across (m .grain) fx fy);
+  force = forceIn which (along (m .grain) fx fy);
+  sideways = forceIn which (across (m .grain) fx fy);
 }
+
+abbrev pub viewOf : Which → Piece → ℤ → ℤ → List ℤ → List ℤ → View
+viewOf which m fx fy x y =
+    record { frame = frameOf which m fx fy; along = along (m .grain) x y; across = across (m .grain) x y }
 
 -- α is the angle between force and grain: cos²α is the squared component along, sin²α the squared component across, each over
 -- the squared force fx² + fy².
 abbrev pub square : ℤ → ℕ
 square z = natAbs z * natAbs z
 
-abbrev pub squaredForce : Frame → ℕ
-squaredForce v = square (v .force) + square (v .sideways)
+abbrev pub squaredForce : ℤ → ℤ → ℕ
+squaredForce fx fy = square fx + square fy
 
 -- where dowel i lies in a list of coordinates; the distance of dowels i and j
 abbrev pub place : List ℤ → ℕ → ℤ
@@ -54,7 +62,7 @@ alongEnough d part total a =
     leb (30 * d) a && leb (20 * d * (20 * d) * part) ((a - 30 * d) * (a - 30 * d) * total)
 
 abbrev pub pairPasses : Frame → ℕ → ℕ → ℕ → Bool
-pairPasses v d a b = alongEnough d (square (v .force)) (squaredForce v) a || leb (30 * d) b
+pairPasses v d a b = alongEnough d (square (v .force)) (squaredForce (v .force) (v .sideways)) a || leb (30 * d) b
 
 -- The end towards which the force in this member has a component: at least 7d and at least 80 mm. Another end: at least
 -- 7d sin α and at least 3d. A distance z is negative outside; sin²α = part/total.
@@ -67,8 +75,8 @@ endPasses loaded d part total z =
 -- Ends lie across the grain. The low one is loaded where the force along is below 0, the high one where it is above 0.
 abbrev pub endsPass : Frame → ℕ → ℤ → Bool
 endsPass v d a =
-    endPasses (leZ (pos 1) (negℤ (v .force))) d (square (v .sideways)) (squaredForce v) (a -ℤ v .low)
-    && endPasses (leZ (pos 1) (v .force)) d (square (v .sideways)) (squaredForce v) (v .high -ℤ a)
+    endPasses (leZ (pos 1) (negℤ (v .force))) d (square (v .sideways)) (squaredForce (v .force) (v .sideways)) (a -ℤ v .low)
+    && endPasses (leZ (pos 1) (v .force)) d (square (v .sideways)) (squaredForce (v .force) (v .sideways)) (v .high -ℤ a)
 
 -- Both edges: at least 3d.
 abbrev pub edgesPass : Frame → ℕ → ℤ → Bool

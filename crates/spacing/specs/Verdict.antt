@@ -4,8 +4,10 @@ use mathlib.Core.Bool.{cond}
 use mathlib.Core.List.{List}
 use lib.Dec.{ltb, eqb}
 use lib.IntN.{ℤ}
-use Rattle.spacing.specs.declared.verdict.Member.{Member}
-use Rattle.spacing.specs.declared.verdict.Frame.{Frame}
+use Rattle.spacing.specs.declared.view.Which.{Which}
+use Rattle.spacing.specs.declared.view.Which.the-variants.{Member1, Member2}
+use Rattle.spacing.specs.declared.view.Piece.{Piece}
+use Rattle.spacing.specs.declared.view.Frame.{Frame}
 use Rattle.spacing.specs.declared.verdict.Fault.{Fault}
 use Rattle.spacing.specs.Spacing.{along, across, frameOf, tooClose, endTooNear, edgeTooNear}
 use Rattle.spacing.specs.Search.{firstFrom, partner, firstPair}
@@ -38,11 +40,16 @@ unfoldable pub verdictIn : ℕ → Frame → ℕ → List ℤ → List ℤ → �
 verdictIn member v d a b n =
     orElse (pairFault member v d a b n) (orElse (endFault member v d a n) (edgeFault member v d b n))
 
-unfoldable pub memberVerdict : ℕ → Member → ℕ → ℤ → ℤ → List ℤ → List ℤ → ℕ → Fault
-memberVerdict member m d fx fy x y n =
-    verdictIn member (frameOf member m fx fy) d (along (m .grain) x y) (across (m .grain) x y) n
+-- A place names member 1 as 1 and member 2 as 2.
+abbrev pub numberOf : Which → ℕ
+numberOf Member1 = 1
+numberOf Member2 = 2
+
+unfoldable pub memberVerdict : Which → Piece → ℕ → ℤ → ℤ → List ℤ → List ℤ → ℕ → Fault
+memberVerdict which m d fx fy x y n =
+    verdictIn (numberOf which) (frameOf which m fx fy) d (along (m .grain) x y) (across (m .grain) x y) n
 
 -- Member 1 for 10, 11, 12, then member 2.
-unfoldable pub spacingVerdict : Member → Member → ℕ → ℤ → ℤ → List ℤ → List ℤ → ℕ → Fault
+unfoldable pub spacingVerdict : Piece → Piece → ℕ → ℤ → ℤ → List ℤ → List ℤ → ℕ → Fault
 spacingVerdict m₁ m₂ d fx fy x y n =
-    orElse (memberVerdict 1 m₁ d fx fy x y n) (memberVerdict 2 m₂ d fx fy x y n)
+    orElse (memberVerdict Member1 m₁ d fx fy x y n) (memberVerdict Member2 m₂ d fx fy x y n)

@@ -4,13 +4,16 @@
 // Table 13-2, as 001 prints them.
 ghost use Prim.Native.Nat.{_+_, _*_, _≤_};
 ghost use lib.ListN.{length};
+ghost use Rattle.spacing.specs.Spacing.{Given};
 use group::share;
 use libc::STDIN_FILENO;
 use libc::STDOUT_FILENO;
 use spacing::signed;
 use spacing::verdict;
 use spacing::verdict::Fault;
-use spacing::verdict::Member;
+use spacing::view;
+use spacing::view::Piece;
+use spacing::view::Which;
 
 const FIELD: usize = 9;
 
@@ -72,10 +75,10 @@ fn column(s: &[u8], k: usize, count: usize) -> [i32; 64]
     out
 }
 
-fn member(s: &[u8], k: usize) -> Member
+fn member(s: &[u8], k: usize) -> Piece
     requires { ⌜ k ≤ 7150 ⌝ }
 {
-    Member {
+    Piece {
         grain: if number(s, k) == 0 { 0 } else { 1 },
         x0: number(s, k + 1),
         y0: number(s, k + 2),
@@ -96,12 +99,22 @@ fn print_fault(f: Fault) {
     print(f.second as u64);
 }
 
-fn print_shares(side: Member, middle: Member, d: u64, x: [i32; 64], y: [i32; 64], count: usize)
-    requires { ⌜ (6 ≤ d) × (d ≤ 30) × (1 ≤ count) × (count ≤ 64) ⌝ }
+fn print_share(
+    which: Which,
+    m: Piece,
+    d: u64,
+    fx: i32,
+    fy: i32,
+    x: [i32; 64],
+    y: [i32; 64],
+    count: usize,
+)
+    requires { ⌜ Given d fx fy count × (1 ≤ count) ⌝ }
 {
-    let shares = share::both_shares(side, middle, d, x, y, count);
-    print(shares.side);
-    print(shares.middle);
+    let view = view::view_of(which, m, fx, fy, x, y);
+    let along = view.along;
+    let across = view.across;
+    print(share::member_share(d, along, across, count));
 }
 
 // A joint from field k on, with its forces and sizes within the limits of a record.
@@ -111,16 +124,16 @@ fn joint(s: &[u8], k: usize, count: usize)
     let d = signed::size(number(s, k));
     let fx = number(s, k + 1);
     let fy = number(s, k + 2);
-    let side = member(s, k + 3);
-    let middle = member(s, k + 8);
+    let member1 = member(s, k + 3);
+    let member2 = member(s, k + 8);
     let x = column(s, k + 14, count);
     let y = column(s, k + 15, count);
-    verdicts(side, middle, d, fx, fy, x, y, count);
+    verdicts(member1, member2, d, fx, fy, x, y, count);
 }
 
 fn verdicts(
-    side: Member,
-    middle: Member,
+    member1: Piece,
+    member2: Piece,
     d: u64,
     fx: i32,
     fy: i32,
@@ -147,8 +160,9 @@ fn verdicts(
     if wide + high == 0 {
         return;
     }
-    print_fault(verdict::spacing_verdict(side, middle, d, fx, fy, x, y, count));
-    print_shares(side, middle, d, x, y, count);
+    print_fault(verdict::spacing_verdict(member1, member2, d, fx, fy, x, y, count));
+    print_share(Which::Member1, member1, d, fx, fy, x, y, count);
+    print_share(Which::Member2, member2, d, fx, fy, x, y, count);
     io::write_all(STDOUT_FILENO, b"\n");
 }
 
@@ -192,14 +206,7 @@ fn row(n: usize)
     x[7] = 4200;
     x[8] = 4800;
     x[9] = 5400;
-    let m = Member {
-        grain: 0,
-        x0: 0,
-        y0: 0,
-        x1: 0,
-        y1: 0,
-    };
-    let share = share::member_share(m, 12, x, [0i32; 64], n);
+    let share = share::member_share(12, x, [0i32; 64], n);
     if 10000 < share {
         return;
     }

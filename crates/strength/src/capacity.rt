@@ -65,7 +65,7 @@ pub fn capacity_thousandths(p: Plane) -> u64
 }
 
 // Rounded down: a figure rounded to nearest could lie above the exact one.
-fn whole_newtons(thousandths: u64) -> u64
+pub fn whole_newtons(thousandths: u64) -> u64
     ensures { λ r. ⌜ r ≡ thousandths / 1000 ⌝ }
 {
     thousandths / 1000

@@ -3,7 +3,7 @@ use borrow.Author.Needs.{needs}
 use mathlib.Core.Path.{_∙_, ap, sym}
 use lib.Seq.{take-all, length-take-le}
 use native.Mathlib.Nat.{le-of-lt}
-use Rattle.joint.specs.Workings.{reportOf}
+use Rattle.joint.specs.Returned.{reportOf}
 use Rattle.console.proofs.Inputs.{both, input-long, input-judged}
 use Rattle.console.proofs.judge_input.Statement.{statement}
 use Rattle.console.proofs.judge_input.Tie as tie
@@ -29,7 +29,7 @@ returns-2 : tie.Need-returns-2
 returns-2 c =
     let a = c .before .before .before .before .before .args in
     both (a .buffer .now) (a .count) (a .more) (c .judge .result)
-    (input-judged (a .buffer .now) (a .count) (a .more) (c .judge .result) (c .before .before .before .if1 .left) (c .judge .ensures .1))
+    (input-judged (a .buffer .now) (a .count) (a .more) (c .judge .result) (c .before .before .before .if1 .left) (c .judge .ensures .is))
 
 judge-requires-2 : tie.Need-judge-requires-2
 judge-requires-2 c κs = search needs
@@ -39,7 +39,7 @@ returns-3 c =
     let a = c .before .before .before .before .args in
     let e = ap reportOf (sym (take-all (a .count) (a .buffer .now) (c .before .if2 .left))) in
     both (a .buffer .now) (a .count) (a .more) (c .judge2 .result)
-    (input-judged (a .buffer .now) (a .count) (a .more) (c .judge2 .result) (c .before .before .if1 .left) (c .judge2 .ensures .1 ∙ e))
+    (input-judged (a .buffer .now) (a .count) (a .more) (c .judge2 .result) (c .before .before .if1 .left) (c .judge2 .ensures .is ∙ e))
 
 pub judge-input-spec : {M : Type 1} → statement M
 judge-input-spec =

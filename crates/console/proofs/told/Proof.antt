@@ -43,7 +43,7 @@ returns-2 c =
     let u = unread-is (a .first) (a .second) _ _ false (f .has-failed .ensures) (i .before .has-failed2 .ensures) (i .if1 .left) in
     let j = c .before .before .judge-input in
     is-told (a .first) (a .second) (a .buffer .now) _ (b .bytes-of .result) (f .before .bytes-of2 .result) _ (j .result) (b .bytes-of .ensures)
-    (f .before .bytes-of2 .ensures) u (j .ensures .1) (c .line-of .ensures)
+    (f .before .bytes-of2 .ensures) u (j .ensures .is) (c .line-of .ensures)
 
 pub told-spec : {M : Type 1} → statement M
 told-spec =

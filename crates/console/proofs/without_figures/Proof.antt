@@ -1,6 +1,6 @@
 -- By computing.
 use mathlib.Core.Path.{refl}
-use Rattle.joint.specs.Workings.{unanswered}
+use Rattle.joint.specs.Returned.{unanswered}
 use Rattle.console.proofs.without_figures.Statement.{statement}
 use Rattle.console.proofs.without_figures.Tie as tie
 

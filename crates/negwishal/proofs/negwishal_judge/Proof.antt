@@ -69,7 +69,7 @@ returns-2 c = record {
   report = λ h. (
     c .before .before .before .before .before .judge .result,
     refl,
-    c .before .before .before .before .before .judge .ensures .0,
+    c .before .before .before .before .before .judge .ensures .claim,
     ap (λ (v : ℕ). sets (c .before .before .before .before .before .before .before .before .before .args .out .now) 0 (v ∷ rest (c .before .before .before .before .before .judge .result))) (c .before .before .before .before .verdict-code .ensures)
         ∙ sets-eq (filled (c .before .before .before .before .before .judge .result)) (c .before .before .before .before .before .before .before .before .before .args .out .now) 0 h,
   );

@@ -1,5 +1,4 @@
 -- The bracket lo .. hi of the share is halved: its width falls, and the greatest share stays inside.
--- Assumes nothing.
 use borrow.Author.Needs.{needs}
 use borrow.Author.Tests.{leb-true, leb-false}
 use native.Mathlib.Omega.{arith}

@@ -1,7 +1,11 @@
--- `passes` meets its contract: e^4 has 64 bits.
--- Assumes nothing.
+-- e^4 has 64 bits.
+use denote.Ref.{now}
+use mathlib.Core.Path.{ap, _∙_}
+use Prim.Native.Nat.{_*_, _^_, _≤_}
+use lib.Dec.{leb}
 use native.Mathlib.Nat.{mul-le-mul}
-use Rattle.group.proofs.Shares.{fourth, power-tested}
+use Rattle.wide.specs.Natural.{value}
+use Rattle.group.proofs.Shares.{fourth}
 use native.Mathlib.Omega.{arith}
 use borrow.Author.Needs.{needs}
 use Rattle.group.proofs.share.passes.Statement.{statement}
@@ -9,19 +13,17 @@ use Rattle.group.proofs.share.passes.Tie as tie
 
 returns : tie.Need-returns
 returns c =
-    power-tested _ _ _ _ _ (c .fifth-power-at-most .ensures) (fourth (c .before .before .before .args .e))
+    let k : tie.Start = search in
+    c .fifth-power-at-most .ensures
+    ∙ ap (λ r. leb (r ^ 5 * value (now (k .args .q))) (value (now (k .args .n)))) (fourth (k .args .e))
 
-mul-square : tie.Need-mul-square
-mul-square c = record { fits = omega (arith, mul-le-mul (c .before .before .pre .0) (c .before .before .pre .0)) }
+square-small : (k : tie.Start) → k .args .e * k .args .e ≤ 100000000
+square-small k = mul-le-mul (k .pre .0) (k .pre .0)
 
 mul-fifth-power-at-most : tie.Need-mul-fifth-power-at-most
-mul-fifth-power-at-most c = record {
-  fits = omega (arith, mul-le-mul (mul-le-mul (c .before .before .pre .0) (c .before .before .pre .0)) (mul-le-mul (c .before .before .pre .0) (c .before .before .pre .0)));
-}
-
-fifth-power-at-most-requires : tie.Need-fifth-power-at-most-requires
-fifth-power-at-most-requires c κs = search needs
+mul-fifth-power-at-most c =
+    let s = square-small (c .before .before) in record { fits = omega (arith, mul-le-mul s s) }
 
 pub passes-spec : {M : Type 1} → statement M
 passes-spec =
-    tie.close (tie.spec mul-square mul-fifth-power-at-most fifth-power-at-most-requires returns)
+    tie.close (tie.spec (λ c. record { fits = omega (arith, square-small (c .before .before)) }) mul-fifth-power-at-most (λ c κs. search needs) returns)

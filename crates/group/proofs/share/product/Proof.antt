@@ -1,5 +1,4 @@
--- `product` meets its contract: n² a² has 49 bits.
--- Assumes nothing.
+-- n² a² has 49 bits.
 use mathlib.Core.Path.{_≡_, ap, _∙_}
 use Prim.Native.Nat.{_*_}
 use native.Mathlib.Nat.{lt-of-lt-of-le}
@@ -25,9 +24,6 @@ mul-product-u64-2 c = record {
 mul-product-u64-3 : tie.Need-mul-product-u64-3
 mul-product-u64-3 c = record { fits = lt-of-lt-of-le (distance3 (c .pre .1)) (lit≤ tt) }
 
-product-u64-requires : tie.Need-product-u64-requires
-product-u64-requires c κs = search needs
-
 returns : tie.Need-returns
 returns c =
     let n = c .before .args .number in
@@ -38,10 +34,4 @@ returns c =
 pub product-spec : {M : Type 1} → statement M
 product-spec =
     tie.close
-    (tie.spec
-    mul-square
-    mul-product-u64
-    mul-product-u64-2
-    mul-product-u64-3
-    product-u64-requires
-    returns)
+    (tie.spec mul-square mul-product-u64 mul-product-u64-2 mul-product-u64-3 (λ c κs. search needs) returns)

@@ -1,5 +1,4 @@
--- `scaled` meets its contract: the product has 355 bits.
--- Assumes nothing.
+-- The product has 355 bits.
 use mathlib.Core.Path.{_≡_, ap₂, _∙_}
 use Prim.Native.Nat.{_*_, _^_}
 use native.Mathlib.Omega.{arith}
@@ -10,18 +9,6 @@ use Rattle.group.proofs.Sizes.{distance5, fifth, units-are, units-bits}
 use borrow.Author.Needs.{needs}
 use Rattle.group.proofs.share.scaled.Statement.{statement}
 use Rattle.group.proofs.share.scaled.Tie as tie
-
-product-requires : tie.Need-product-requires
-product-requires c κs = search needs
-
-slice-aggregate-multiply-add : tie.Need-slice-aggregate-multiply-add
-slice-aggregate-multiply-add c = search needs
-
-slice-aggregate-multiply-add-2 : tie.Need-slice-aggregate-multiply-add-2
-slice-aggregate-multiply-add-2 c = search needs
-
-slice-aggregate-multiply-add-3 : tie.Need-slice-aggregate-multiply-add-3
-slice-aggregate-multiply-add-3 c = search needs
 
 power-is : (c : tie.After-product) → value (c .product .result) ≡ c .before .args .a1 ^ 5
 power-is c =
@@ -42,10 +29,4 @@ returns c =
 pub scaled-spec : {M : Type 1} → statement M
 scaled-spec =
     tie.close
-    (tie.spec
-    product-requires
-    slice-aggregate-multiply-add
-    slice-aggregate-multiply-add-2
-    slice-aggregate-multiply-add-3
-    multiply-add-requires
-    returns)
+    (tie.spec (λ c κs. search needs) (λ c. search needs) (λ c. search needs) (λ c. search needs) multiply-add-requires returns)

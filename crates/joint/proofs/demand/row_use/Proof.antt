@@ -1,31 +1,26 @@
--- `demand::row_use` meets its contract.
-use native.Mathlib.Omega.{arith}
+-- Each product is within 64 bits.
 use borrow.Author.Needs.{needs}
-use Rattle.joint.specs.Workings.{rowUseOf}
-use Rattle.joint.proofs.UseSizes.{planes-fifth, planes-share, row-divisor, row-divisor-some}
+use native.Mathlib.Omega.{arith}
+use Rattle.joint.specs.Returned.{rowUseOf}
+use Rattle.joint.proofs.UseSizes.{planes-fifth, planes-share, row-divisor, row-some}
 use Rattle.joint.proofs.demand.row_use.Statement.{statement}
 use Rattle.joint.proofs.demand.row_use.Tie as tie
 
-mul-ceiling : tie.Need-mul-ceiling
-mul-ceiling c = search needs
-
-mul-ceiling-2 : tie.Need-mul-ceiling-2
-mul-ceiling-2 c = omega (arith, planes-fifth (c .before .before .args .d .planes2) (c .before .before .args .d .kmod) (c .before .before .args .d .capacity) (c .before .before .pre .0 .check))
-
-mul-ceiling-3 : tie.Need-mul-ceiling-3
-mul-ceiling-3 c = omega (arith, planes-share (c .before .before .args .d .planes2) (c .before .before .args .d .kmod) (c .before .before .args .d .capacity) (c .before .before .pre .0 .check) (c .before .before .args .along) (c .before .before .args .share) (c .before .before .pre .1))
-
-mul-ceiling-4 : tie.Need-mul-ceiling-4
-mul-ceiling-4 c = omega (arith, row-divisor (c .before .before .before .args .d .planes2) (c .before .before .before .args .d .kmod) (c .before .before .before .args .d .capacity) (c .before .before .before .pre .0 .check) (c .before .before .before .args .along) (c .before .before .before .args .share) (c .before .before .before .pre .1))
-
-ceiling-requires : tie.Need-ceiling-requires
-ceiling-requires c κs = (row-divisor-some (c .before .before .before .args .d .planes2) (c .before .before .before .args .d .kmod) (c .before .before .before .args .d .capacity) (c .before .before .before .pre .0 .check) (c .before .before .before .args .along) (c .before .before .before .args .share) (c .before .before .before .pre .1), omega (arith, row-divisor (c .before .before .before .args .d .planes2) (c .before .before .before .args .d .kmod) (c .before .before .before .args .d .capacity) (c .before .before .before .pre .0 .check) (c .before .before .before .args .along) (c .before .before .before .args .share) (c .before .before .before .pre .1), c .before .before .before .pre .1 .along-high))
+ceiling-from-requires : tie.Need-ceiling-from-requires
+ceiling-from-requires c κs =
+    let k : tie.Start = search in
+    let w = k .pre .0 in
+    let r = k .pre .1 in
+    (row-some (k .args .d) w (k .args .m) r, omega (arith, row-divisor (k .args .d) w (k .args .m) r, r .along-high))
 
 returns : tie.Need-returns
 unfolding rowUseOf
-returns c = c .ceiling .ensures
+returns c = c .ceiling-from .ensures
 
 pub row-use-spec : {M : Type 1} → statement M
 row-use-spec =
     tie.close
-    (tie.spec mul-ceiling mul-ceiling-2 mul-ceiling-3 mul-ceiling-4 ceiling-requires returns)
+    (tie.spec (λ c. search needs) (λ c. let k : tie.Start = search in omega (arith, planes-fifth (k .args .d) (k .pre .0)))
+    (λ c. let k : tie.Start = search in omega (arith, planes-share (k .args .d) (k .pre .0) (k .args .m) (k .pre .1)))
+    (λ c. let k : tie.Start = search in omega (arith, row-divisor (k .args .d) (k .pre .0) (k .args .m) (k .pre .1)))
+    ceiling-from-requires returns)

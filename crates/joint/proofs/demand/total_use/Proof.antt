@@ -1,43 +1,32 @@
--- `demand::total_use` meets its contract.
-use native.Mathlib.Omega.{arith}
+-- Each product is within 64 bits.
 use borrow.Author.Needs.{needs}
-use Rattle.joint.specs.Workings.{totalUseOf, ceilingOf}
-use Rattle.joint.proofs.UseSizes.{planes-kmod, total-divisor, total-divisor-some}
-use mathlib.Core.Path.{_∙_, ap}
-use Prim.Native.Nat.{ℕ, _*_}
+use native.Mathlib.Omega.{arith}
+use mathlib.Core.Path.{_≡_, _∙_, ap}
+use Prim.Native.Nat.{ℕ, _*_, max}
+use Rattle.joint.specs.Returned.{totalUseOf, ceilingOf}
+use Rattle.joint.proofs.UseSizes.{planes-kmod, total-divisor, total-some}
 use Rattle.joint.proofs.demand.total_use.Statement.{statement}
 use Rattle.joint.proofs.demand.total_use.Tie as tie
 
-scaled-force-requires : tie.Need-scaled-force-requires
-scaled-force-requires c κs = search needs
-
-mul-ceiling : tie.Need-mul-ceiling
-mul-ceiling c = search needs
-
-mul-ceiling-2 : tie.Need-mul-ceiling-2
-mul-ceiling-2 c = omega (arith, planes-kmod (c .before .before .args .d .planes2) (c .before .before .args .d .kmod) (c .before .before .args .d .capacity) (c .before .before .pre .check))
-
-mul-ceiling-3 : tie.Need-mul-ceiling-3
-mul-ceiling-3 c = omega (arith, planes-kmod (c .before .before .args .d .planes2) (c .before .before .args .d .kmod) (c .before .before .args .d .capacity) (c .before .before .pre .check))
-
-mul-ceiling-4 : tie.Need-mul-ceiling-4
-mul-ceiling-4 c = omega (arith, total-divisor (c .before .before .before .args .d .planes2) (c .before .before .before .args .d .kmod) (c .before .before .before .args .d .capacity) (c .before .before .before .pre .check))
-
-ceiling-requires : tie.Need-ceiling-requires
-ceiling-requires c κs = (total-divisor-some (c .before .before .before .args .d .planes2) (c .before .before .before .args .d .kmod) (c .before .before .before .args .d .capacity) (c .before .before .before .pre .check), omega (arith, total-divisor (c .before .before .before .args .d .planes2) (c .before .before .before .args .d .kmod) (c .before .before .before .args .d .capacity) (c .before .before .before .pre .check), c .before .before .scaled-force .ensures .1))
+ceiling-from-requires : tie.Need-ceiling-from-requires
+ceiling-from-requires c κs =
+    let f : tie.After-scaled-force = search in
+    let k : tie.Start = search in
+    (total-some (k .args .d) (k .pre), omega (arith, total-divisor (k .args .d) (k .pre), f .scaled-force .ensures .1))
 
 returns : tie.Need-returns
 unfolding totalUseOf
-returns c = c .ceiling .ensures ∙ ap (λ (g : ℕ). ceilingOf (2600000000 * g) (1024 * (c .before .before .before .before .args .d .planes2 * c .before .before .before .before .args .d .kmod) * c .before .before .before .before .args .d .capacity)) (c .before .before .before .scaled-force .ensures .0)
+returns c =
+    let f : tie.After-scaled-force = search in
+    let d = f .before .args .d in
+    let z : (n : ℕ) → max 0 n ≡ n = λ n. omega arith in
+    c .ceiling-from .ensures ∙ z _
+    ∙ ap (λ (g : ℕ). ceilingOf (2600000000 * g) (1024 * (d .planes2 * d .kmod) * d .capacity)) (f .scaled-force .ensures .0)
 
 pub total-use-spec : {M : Type 1} → statement M
 total-use-spec =
     tie.close
-    (tie.spec
-    scaled-force-requires
-    mul-ceiling
-    mul-ceiling-2
-    mul-ceiling-3
-    mul-ceiling-4
-    ceiling-requires
-    returns)
+    (tie.spec (λ c κs. search needs) (λ c. search needs)
+    (λ c. let k : tie.Start = search in omega (arith, planes-kmod (k .args .d) (k .pre)))
+    (λ c. let k : tie.Start = search in omega (arith, planes-kmod (k .args .d) (k .pre)))
+    (λ c. let k : tie.Start = search in omega (arith, total-divisor (k .args .d) (k .pre))) ceiling-from-requires returns)

@@ -1,71 +1,47 @@
--- `figures::answer` meets its contract.
-use native.Mathlib.Omega.{arith}
+-- The demand is the record's.
 use borrow.Author.Needs.{needs}
-use mathlib.Core.Path.{_≡_, _∙_, ap, ap₂}
-use Prim.Native.Nat.{ℕ, _/_, min}
-use Rattle.group.specs.declared.share.Shares.{Shares}
-use Rattle.strength.specs.Working.{capacityOf}
-use Rattle.joint.specs.Use.{planeOf}
-use Rattle.joint.specs.Claim.{verdictOf}
-use Rattle.joint.specs.Workings.{answered, useIn, useOf, shareIn}
-use Rattle.joint.proofs.Claims.{known}
-use Rattle.joint.proofs.Planes.{demand-path, demand-within}
+use native.Mathlib.Omega.{arith}
+use mathlib.Core.Path.{_≡_, _∙_, ap, ap₂, subst⁻¹}
+use Rattle.group.specs.declared.member.Both.{Both}
+use Rattle.joint.specs.Returned.{demandIn, demandOf, reportWith, answered, DemandWithin}
+use Rattle.joint.proofs.Answers.{plane, within}
 use Rattle.joint.proofs.figures.answer.Statement.{statement}
 use Rattle.joint.proofs.figures.answer.Tie as tie
 
-capacity-of-requires : tie.Need-capacity-of-requires
-capacity-of-requires c κs = search needs
-
-shares-of-requires : tie.Need-shares-of-requires
-shares-of-requires c κs = search needs
-
 demand-of-requires : tie.Need-demand-of-requires
-demand-of-requires c κs = search needs
+demand-of-requires c κs =
+    let k : tie.Start = search in
+    let w = within (k .args .v) (k .pre) in
+    let first = ap (λ (r : Both). r .member1 .along) (c .taken-of .ensures) in
+    let second = ap (λ (r : Both). r .member2 .along) (c .taken-of .ensures) in (
+      record {
+        member1 = first;
+        member2 = second;
+        small1 = omega (arith, w .row1 .along-high);
+        small2 = omega (arith, w .row2 .along-high);
+        force = k .pre .given .force;
+        plane = plane (k .args .v) (k .pre);
+      },
+      k .pre .given .most,
+    )
 
-use-ten-thousandths-requires : tie.Need-use-ten-thousandths-requires
-use-ten-thousandths-requires c κs =
-    let v = c .before .before .before .args .v in
-    let w = known v (c .before .before .before .pre) .demand in
-    let first = ap (λ (s : Shares). s .side) (c .before .shares-of .ensures) in
-    let second = ap (λ (s : Shares). s .middle) (c .before .shares-of .ensures) in
-    demand-within v (capacityOf (planeOf v)) (shareIn v (v .members .member1)) (shareIn v (v .members .member2)) _ _ _ w (c .demand-of .ensures) (c .before .before .capacity-of .ensures)
-    (omega (arith, w .row1 .share-low, w .row2 .share-low, first, second))
-    (omega (arith, w .row1 .share-high, w .row2 .share-high, first, second))
-    (omega (arith, w .row1 .share-low, w .row2 .share-low, first, second))
-    (omega (arith, w .row1 .share-high, w .row2 .share-high, first, second))
+demand-is : (c : tie.After-demand-of) → let k : tie.Start = search in c .demand-of .result ≡ demandOf (k .args .v)
+demand-is c =
+    let t : tie.After-taken-of = search in
+    let k : tie.Start = search in
+    let v = k .args .v in
+    c .demand-of .ensures ∙ ap (demandIn (v .members) (v .dowel) (v .loads) (v .positions .n)) (t .taken-of .ensures)
 
-verdict-of-requires : tie.Need-verdict-of-requires
-verdict-of-requires c κs = search needs
-
-lesser-requires : tie.Need-lesser-requires
-lesser-requires c κs = search needs
+report-of-requires : tie.Need-report-of-requires
+report-of-requires c κs =
+    let k : tie.Start = search in subst⁻¹ DemandWithin (demand-is c) (within (k .args .v) (k .pre))
 
 returns : tie.Need-returns
-unfolding answered useIn
+unfolding answered
 returns c =
-    let first = ap (λ (s : Shares). s .side) (c .before .before .before .before .shares-of .ensures) in
-    let second = ap (λ (s : Shares). s .middle) (c .before .before .before .before .shares-of .ensures) in
-    let u = c .before .before .use-ten-thousandths .ensures ∙ ap useOf (demand-path (c .before .before .before .before .before .before .args .v) (c .before .before .before .before .before .capacity-of .result) (c .before .before .before .before .shares-of .result .side) (c .before .before .before .before .shares-of .result .middle) (c .before .before .before .demand-of .result) (c .before .before .before .demand-of .ensures) (c .before .before .before .before .before .capacity-of .ensures) first second) in
-    let l : c .lesser .result ≡ min (c .before .before .before .before .shares-of .result .side) (c .before .before .before .before .shares-of .result .middle) = c .lesser .ensures in
-    λ i. record {
-      verdict = (c .before .verdict-of .ensures ∙ ap verdictOf u) i;
-      number = 0;
-      member = 0;
-      first = 0;
-      second = 0;
-      usage = u i;
-      capacity = ap (λ (z : ℕ). z / 1000) (c .before .before .before .before .before .capacity-of .ensures) i;
-      share = (l ∙ ap₂ min first second) i;
-    }
+    let d : tie.After-demand-of = search in
+    let t : tie.After-taken-of = search in
+    c .report-of .ensures ∙ ap₂ reportWith (demand-is d) (ap (λ (b : Both). b .share) (t .taken-of .ensures))
 
 pub answer-spec : {M : Type 1} → statement M
-answer-spec =
-    tie.close
-    (tie.spec
-    capacity-of-requires
-    shares-of-requires
-    demand-of-requires
-    use-ten-thousandths-requires
-    verdict-of-requires
-    lesser-requires
-    returns)
+answer-spec = tie.close (tie.spec (λ c κs. search needs) demand-of-requires report-of-requires returns)

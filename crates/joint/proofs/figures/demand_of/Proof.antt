@@ -1,39 +1,57 @@
--- `figures::demand_of` meets its contract.
+-- The plane is the record's.
 use borrow.Author.Needs.{needs}
-use mathlib.Core.Path.{_∙_, ap}
-use Rattle.joint.specs.Use.{listed}
+use mathlib.Core.Path.{_≡_, _∙_, ap, subst⁻¹}
+use Rattle.spacing.specs.Spacing.{squaredForce}
+use Rattle.spacing.proofs.Integers.{small-read}
+use Rattle.strength.specs.Shear.{PlaneWithin}
+use Rattle.strength.specs.Working.{capacityOf}
+use Rattle.joint.specs.DesignOf.{listed, planeIn, planeOf}
 use Rattle.joint.proofs.figures.demand_of.Statement.{statement}
 use Rattle.joint.proofs.figures.demand_of.Tie as tie
 
-squared-force-requires : tie.Need-squared-force-requires
-squared-force-requires c κs = search needs
+total-is :
+    (c : tie.After-squared-force) →
+    let l = c .before .before .before .before .before .args .loads in
+    c .squared-force .result ≡ squaredForce (l .fx) (l .fy)
+total-is c =
+    let k : tie.Start = search in
+    let f = k .pre .0 .force in
+    let l = k .args .loads in
+    rw (small-read (l .fx) (f .x-small), small-read (l .fy) (f .y-small)) at (c .squared-force .ensures)
 
-force-along-requires : tie.Need-force-along-requires
-force-along-requires c κs = search needs
+plane-is :
+    (c : tie.After-squared-force) →
+    let v = c .before .before .before .before .before .args in
+    planeIn (v .members) (v .dowel) (c .squared-force .result) (v .taken .member1 .along) (v .taken .member2 .along)
+    ≡ planeOf (v .members) (v .dowel) (v .loads)
+plane-is c =
+    let k : tie.Start = search in
+    let v = k .args in
+    λ i. planeIn (v .members) (v .dowel) (total-is c i) (k .pre .0 .member1 i) (k .pre .0 .member2 i)
 
-force-along-requires-2 : tie.Need-force-along-requires-2
-force-along-requires-2 c κs = search needs
-
-twice-planes-requires : tie.Need-twice-planes-requires
-twice-planes-requires c κs = search needs
-
-kmod-hundredths-requires : tie.Need-kmod-hundredths-requires
-kmod-hundredths-requires c κs = search needs
-
-listed-requires : tie.Need-listed-requires
-listed-requires c κs = search needs
+capacity-of-requires : tie.Need-capacity-of-requires
+capacity-of-requires c κs =
+    let k : tie.Start = search in
+    let g = k .pre .0 in
+    (subst⁻¹ PlaneWithin (plane-is c) (g .plane), (g .small1, g .small2))
 
 returns : tie.Need-returns
-returns c = λ i. record { total = c .before .before .before .before .before .squared-force .ensures i; along1 = c .before .before .before .before .force-along .ensures i; along2 = c .before .before .before .force-along2 .ensures i; planes2 = c .before .before .twice-planes .ensures i; kmod = (c .listed .ensures ∙ ap listed (c .before .kmod-hundredths .ensures)) i; capacity = c .before .before .before .before .before .before .before .before .before .args .capacity; share1 = c .before .before .before .before .before .before .before .before .before .args .share1; share2 = c .before .before .before .before .before .before .before .before .before .args .share2 }
+returns c =
+    let planes : tie.After-twice-planes = search in
+    let capacity : tie.After-capacity-of = search in
+    let total : tie.After-squared-force = search in
+    let k : tie.Start = search in
+    λ i. record {
+      total = total-is total i;
+      member1 = k .args .taken .member1;
+      member2 = k .args .taken .member2;
+      planes2 = planes .twice-planes .ensures i;
+      kmod = (c .listed .ensures ∙ ap listed (c .before .kmod-hundredths .ensures)) i;
+      capacity = (capacity .capacity-of .ensures ∙ ap capacityOf (plane-is total)) i;
+    }
 
 pub demand-of-spec : {M : Type 1} → statement M
 demand-of-spec =
     tie.close
-    (tie.spec
-    squared-force-requires
-    force-along-requires
-    force-along-requires-2
-    twice-planes-requires
-    kmod-hundredths-requires
-    listed-requires
+    (tie.spec (λ c κs. search needs) capacity-of-requires (λ c κs. search needs) (λ c κs. search needs) (λ c κs. search needs)
     returns)

@@ -1,5 +1,4 @@
--- `least_part` meets its contract: the root is rounded up.
--- Assumes nothing.
+-- The root is rounded up.
 use borrow.Author.Needs.{needs}
 use native.Mathlib.Nat.{mul-le-mul}
 use native.Mathlib.Omega.{arith}
@@ -16,15 +15,6 @@ mul-whole-2 c = record { fits = omega (arith, scale-fits (c .pre)) }
 returns : tie.Need-returns
 returns c = record { decides = nothing _ _ (c .if1 .taken) }
 
-sub-whole-square-root : tie.Need-sub-whole-square-root
-sub-whole-square-root c = search needs
-
-div-whole-square-root : tie.Need-div-whole-square-root
-div-whole-square-root c = search needs
-
-whole-square-root-requires : tie.Need-whole-square-root-requires
-whole-square-root-requires c κs = search needs
-
 add-result : tie.Need-add-result
 add-result c = record { fits = omega (arith, scale-fits (c .before .before .pre), root-small _ _ _ (c .whole-square-root .ensures)) }
 
@@ -34,4 +24,4 @@ returns-2 c =
     record { decides = rounded-up _ _ _ (s .force) (omega arith) (c .whole-square-root .ensures) }
 
 pub least-part-spec : {M : Type 1} → statement M
-least-part-spec = tie.close (tie.spec mul-whole mul-whole-2 returns sub-whole-square-root div-whole-square-root whole-square-root-requires add-result returns-2)
+least-part-spec = tie.close (tie.spec mul-whole mul-whole-2 returns (λ c. search needs) (λ c. search needs) (λ c κs. search needs) add-result returns-2)

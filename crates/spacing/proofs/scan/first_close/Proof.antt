@@ -1,5 +1,4 @@
--- `first_close` meets its contract. The loop's invariant: the answer is the answer of what is left from i on.
--- Assumes nothing.
+-- The loop's invariant: the answer is the answer of what is left from i on.
 use borrow.Author.Needs.{needs}
 use borrow.Author.Tests.{lt-ltb, le-ltb}
 use mathlib.Core.Path.{_≡_, sym, _∙_}
@@ -23,19 +22,10 @@ loop-holds : tie.Need-loop-holds Inv-loop μ-loop
 unfolding firstPair
 loop-holds c = (omega arith, first-start _ _)
 
-partner-requires : tie.Need-partner-requires Inv-loop μ-loop
-partner-requires c κs = search needs
-
 returns : tie.Need-returns Inv-loop μ-loop
 returns c =
     let l = c .before .before .before .loop in
     sym (l .inv .1 ∙ first-hit _ (l .i) _ (omega arith) (lt-ltb _ _ (rw (c .before .partner .ensures) at (c .if1 .taken))))
-
-add-i : tie.Need-add-i Inv-loop μ-loop
-add-i c = omega arith
-
-loop-less : tie.Need-loop-less Inv-loop μ-loop
-loop-less c = omega arith
 
 loop-again : tie.Need-loop-again Inv-loop μ-loop
 loop-again c =
@@ -50,4 +40,4 @@ returns-2 c =
     sym (l .inv .1 ∙ first-end _ (l .i) _ (omega arith))
 
 pub first-close-spec : {M : Type 1} → statement M
-first-close-spec = tie.close (tie.spec Inv-loop μ-loop loop-holds partner-requires returns add-i loop-less loop-again returns-2)
+first-close-spec = tie.close (tie.spec Inv-loop μ-loop loop-holds (λ c κs. search needs) returns (λ c. omega arith) (λ c. omega arith) loop-again returns-2)

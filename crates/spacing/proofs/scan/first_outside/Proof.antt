@@ -1,5 +1,4 @@
--- `first_outside` meets its contract. The loop's invariant: the answer is the answer of what is left from i on.
--- Assumes nothing.
+-- The loop's invariant: the answer is the answer of what is left from i on.
 use borrow.Author.Needs.{needs}
 use denote.Ref.{now}
 use mathlib.Core.Path.{_≡_, sym, _∙_}
@@ -27,15 +26,6 @@ abbrev μ-loop : tie.MeasureT-loop
 loop-holds : tie.Need-loop-holds Inv-loop μ-loop
 loop-holds c = (omega arith, first-start _ _)
 
-mul-too-near : tie.Need-mul-too-near Inv-loop μ-loop
-mul-too-near c = omega arith
-
-element-copy-out-too-near : tie.Need-element-copy-out-too-near Inv-loop μ-loop
-element-copy-out-too-near c = omega arith
-
-too-near-requires : tie.Need-too-near-requires Inv-loop μ-loop
-too-near-requires c κs = tt
-
 -- the test of a turn is the test of the search
 answers :
     (c : tie.After-too-near Inv-loop μ-loop) →
@@ -43,41 +33,39 @@ answers :
     c .too-near .result
     ≡ outside (k .low) (k .high) (k .under) (k .over) (now (k .v)) (c .before .before .before .loop .i)
 answers c =
-    let k = c .before .before .before .before in
-    let z : SFits w32 (place (now (k .args .v)) (c .before .before .before .loop .i)) = search needs in
+    let l : tie.At-loop Inv-loop μ-loop = search in
+    let k = l .before in
+    let z : SFits w32 (place (now (k .args .v)) (l .loop .i)) = search needs in
     simp (toZ-ofZ z, toZ-ofZ (k .fits .low), toZ-ofZ (k .fits .high)) at (c .too-near .ensures)
+
+-- the invariant at the limits as they were handed over
+inv :
+    (c : tie.At-loop Inv-loop μ-loop) →
+    let k = c .before .args in
+    let test = outside (k .low) (k .high) (k .under) (k .over) (now (k .v)) in
+    firstFrom test 0 (k .count) ≡ firstFrom test (c .loop .i) (k .count - c .loop .i)
+inv c = simp (toZ-ofZ (c .before .fits .low), toZ-ofZ (c .before .fits .high)) at (c .loop .inv .1)
 
 returns : tie.Need-returns Inv-loop μ-loop
 returns c =
-    let k = c .before .before .before .before .before in
-    let l = c .before .before .before .before .loop in
-    let inv = simp (toZ-ofZ (k .fits .low), toZ-ofZ (k .fits .high)) at (l .inv .1) in
-    sym (inv ∙ first-hit _ (l .i) _ (omega arith) (sym (answers (c .before)) ∙ c .if1 .taken))
-
-add-i : tie.Need-add-i Inv-loop μ-loop
-add-i c = omega arith
-
-loop-less : tie.Need-loop-less Inv-loop μ-loop
-loop-less c = omega arith
+    let l : tie.At-loop Inv-loop μ-loop = search in
+    sym (inv l ∙ first-hit _ (l .loop .i) _ (omega arith) (sym (answers (c .before)) ∙ c .if1 .taken))
 
 loop-again : tie.Need-loop-again Inv-loop μ-loop
 loop-again c =
-    let k = c .before .before .before .before .before in
-    let l = c .before .before .before .before .loop in
-    let inv = simp (toZ-ofZ (k .fits .low), toZ-ofZ (k .fits .high)) at (l .inv .1) in (
+    let l : tie.At-loop Inv-loop μ-loop = search in
+    let k = l .before in (
       omega arith,
       simp (toZ-ofZ (k .fits .low), toZ-ofZ (k .fits .high))
-          (inv ∙ first-on _ (l .i) _ (omega arith) (sym (answers (c .before)) ∙ c .if1 .left)),
+          (inv l ∙ first-on _ (l .loop .i) _ (omega arith) (sym (answers (c .before)) ∙ c .if1 .left)),
     )
 
 returns-2 : tie.Need-returns-2 Inv-loop μ-loop
 returns-2 c =
-    let k = c .before .before in
-    let l = c .before .loop in
-    let inv = simp (toZ-ofZ (k .fits .low), toZ-ofZ (k .fits .high)) at (l .inv .1) in
-    sym (inv ∙ first-end _ (l .i) _ (omega arith))
+    let l = c .before in
+    sym (inv l ∙ first-end _ (l .loop .i) _ (omega arith))
 
 pub first-outside-spec : {M : Type 1} → statement M
 first-outside-spec =
     tie.close
-    (tie.spec Inv-loop μ-loop loop-holds mul-too-near element-copy-out-too-near too-near-requires returns add-i loop-less loop-again returns-2)
+    (tie.spec Inv-loop μ-loop loop-holds (λ c. omega arith) (λ c. omega arith) (λ c κs. tt) returns (λ c. omega arith) (λ c. omega arith) loop-again returns-2)

@@ -1,5 +1,3 @@
--- `nearer` meets its contract.
--- Assumes nothing.
 use Prim.Native.Nat.{_<_, _≤_}
 use native.Mathlib.Omega.{arith}
 use lib.IntN.{natAbs, _-ℤ_}
@@ -7,12 +5,6 @@ use mir.Facts.{toZ-ofZ}
 use Rattle.spacing.proofs.Limits.{nearer-along, far-along}
 use Rattle.spacing.proofs.scan.nearer.Statement.{statement}
 use Rattle.spacing.proofs.scan.nearer.Tie as tie
-
-apart-requires : tie.Need-apart-requires
-apart-requires c κs = tt
-
-apart-requires-2 : tie.Need-apart-requires-2
-apart-requires-2 c κs = tt
 
 returns : tie.Need-returns
 returns c =
@@ -32,4 +24,4 @@ returns-2 c =
     far-along (v .along) (v .across) (natAbs (v .p -ℤ v .q)) (natAbs (v .s -ℤ v .t)) h
 
 pub nearer-spec : {M : Type 1} → statement M
-nearer-spec = tie.close (tie.spec apart-requires apart-requires-2 returns returns-2)
+nearer-spec = tie.close (tie.spec (λ c κs. tt) (λ c κs. tt) returns returns-2)

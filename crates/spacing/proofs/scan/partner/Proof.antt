@@ -1,5 +1,4 @@
--- `partner` meets its contract. The loop's invariant: the answer is the answer of what is left from j on.
--- Assumes nothing.
+-- The loop's invariant: the answer is the answer of what is left from j on.
 use borrow.Author.Needs.{needs}
 use denote.Ref.{now}
 use mathlib.Core.Path.{_≡_, refl, sym, ap₂, _∙_}
@@ -23,39 +22,9 @@ Inv-loop a b count i along across j₀ j =
 abbrev μ-loop : tie.MeasureT-loop
 μ-loop a b count i along across j₀ j = count - j
 
-add-j : tie.Need-add-j Inv-loop μ-loop
-add-j c = omega arith
-
 loop-holds : tie.Need-loop-holds Inv-loop μ-loop
 unfolding partner
 loop-holds c = (omega arith, refl)
-
-mul-nearer : tie.Need-mul-nearer Inv-loop μ-loop
-mul-nearer c = omega arith
-
-element-copy-out-nearer : tie.Need-element-copy-out-nearer Inv-loop μ-loop
-element-copy-out-nearer c = omega arith
-
-mul-nearer-2 : tie.Need-mul-nearer-2 Inv-loop μ-loop
-mul-nearer-2 c = omega arith
-
-element-copy-out-nearer-2 : tie.Need-element-copy-out-nearer-2 Inv-loop μ-loop
-element-copy-out-nearer-2 c = omega arith
-
-mul-nearer-3 : tie.Need-mul-nearer-3 Inv-loop μ-loop
-mul-nearer-3 c = omega arith
-
-element-copy-out-nearer-3 : tie.Need-element-copy-out-nearer-3 Inv-loop μ-loop
-element-copy-out-nearer-3 c = omega arith
-
-mul-nearer-4 : tie.Need-mul-nearer-4 Inv-loop μ-loop
-mul-nearer-4 c = omega arith
-
-element-copy-out-nearer-4 : tie.Need-element-copy-out-nearer-4 Inv-loop μ-loop
-element-copy-out-nearer-4 c = omega arith
-
-nearer-requires : tie.Need-nearer-requires Inv-loop μ-loop
-nearer-requires c κs = tt
 
 -- the test of a turn is the test of the search
 answers :
@@ -64,8 +33,9 @@ answers :
     let j = c .before .before .before .before .before .before .loop .j in
     c .nearer .result ≡ closeBy (k .along) (k .across) (now (k .a)) (now (k .b)) (k .i) j
 answers c =
-    let k = c .before .before .before .before .before .before .before .args in
-    let j = c .before .before .before .before .before .before .loop .j in
+    let l : tie.At-loop Inv-loop μ-loop = search in
+    let j = l .loop .j in
+    let k = l .before .args in
     let ai : SFits w32 (place (now (k .a)) (k .i)) = search needs in
     let aj : SFits w32 (place (now (k .a)) j) = search needs in
     let bi : SFits w32 (place (now (k .b)) (k .i)) = search needs in
@@ -77,19 +47,13 @@ answers c =
 
 returns : tie.Need-returns Inv-loop μ-loop
 returns c =
-    let l = c .before .before .before .before .before .before .before .loop in
-    sym (l .inv .1 ∙ first-hit _ (l .j) _ (omega arith) (sym (answers (c .before)) ∙ c .if1 .taken))
-
-add-j-2 : tie.Need-add-j-2 Inv-loop μ-loop
-add-j-2 c = omega arith
-
-loop-less : tie.Need-loop-less Inv-loop μ-loop
-loop-less c = omega arith
+    let l : tie.At-loop Inv-loop μ-loop = search in
+    sym (l .loop .inv .1 ∙ first-hit _ (l .loop .j) _ (omega arith) (sym (answers (c .before)) ∙ c .if1 .taken))
 
 loop-again : tie.Need-loop-again Inv-loop μ-loop
 loop-again c =
-    let l = c .before .before .before .before .before .before .before .loop in
-    (omega arith, l .inv .1 ∙ first-on _ (l .j) _ (omega arith) (sym (answers (c .before)) ∙ c .if1 .left))
+    let l : tie.At-loop Inv-loop μ-loop = search in
+    (omega arith, l .loop .inv .1 ∙ first-on _ (l .loop .j) _ (omega arith) (sym (answers (c .before)) ∙ c .if1 .left))
 
 returns-2 : tie.Need-returns-2 Inv-loop μ-loop
 returns-2 c =
@@ -99,22 +63,6 @@ returns-2 c =
 pub partner-spec : {M : Type 1} → statement M
 partner-spec =
     tie.close
-    (tie.spec
-    Inv-loop
-    μ-loop
-    add-j
-    loop-holds
-    mul-nearer
-    element-copy-out-nearer
-    mul-nearer-2
-    element-copy-out-nearer-2
-    mul-nearer-3
-    element-copy-out-nearer-3
-    mul-nearer-4
-    element-copy-out-nearer-4
-    nearer-requires
-    returns
-    add-j-2
-    loop-less
-    loop-again
-    returns-2)
+    (tie.spec Inv-loop μ-loop (λ c. omega arith) loop-holds (λ c. omega arith) (λ c. omega arith) (λ c. omega arith)
+    (λ c. omega arith) (λ c. omega arith) (λ c. omega arith) (λ c. omega arith) (λ c. omega arith) (λ c κs. tt) returns
+    (λ c. omega arith) (λ c. omega arith) loop-again returns-2)

@@ -1,16 +1,8 @@
--- `too_near` meets its contract.
--- Assumes nothing.
 use mathlib.Core.Path.{_∙_, sym}
 use mir.Facts.{toZ-ofZ}
 use Rattle.spacing.proofs.Limits.{near-high, near-low}
 use Rattle.spacing.proofs.scan.too_near.Statement.{statement}
 use Rattle.spacing.proofs.scan.too_near.Tie as tie
-
-reaches-requires : tie.Need-reaches-requires
-reaches-requires c κs = tt
-
-reaches-requires-2 : tie.Need-reaches-requires-2
-reaches-requires-2 c κs = tt
 
 returns : tie.Need-returns
 returns c =
@@ -28,4 +20,4 @@ returns-2 c =
     near-low (v .low) (v .high) (v .z) (v .under) (v .over) (sym e ∙ c .if1 .left)
 
 pub too-near-spec : {M : Type 1} → statement M
-too-near-spec = tie.close (tie.spec reaches-requires reaches-requires-2 returns returns-2)
+too-near-spec = tie.close (tie.spec (λ c κs. tt) (λ c κs. tt) returns returns-2)

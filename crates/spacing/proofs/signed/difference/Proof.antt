@@ -1,5 +1,4 @@
--- `difference` meets its contract: in 64 bits it does not wrap.
--- Assumes nothing.
+-- In 64 bits it does not wrap.
 use mir.Facts.{toZ-ofZ}
 use Rattle.spacing.proofs.Integers.{widen, widened, difference-fits}
 use Rattle.spacing.proofs.signed.difference.Statement.{statement}

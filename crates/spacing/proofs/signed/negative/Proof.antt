@@ -1,5 +1,4 @@
--- `negative` meets its contract: a difference with 0.
--- Assumes nothing.
+-- A difference with 0.
 use mathlib.Core.Path.{ap, _∙_}
 use mir.Facts.{toZ-ofZ}
 use lib.IntN.{pos, negℤ, +ℤ-idl}
@@ -7,11 +6,8 @@ use lib.Signed.{leZ}
 use Rattle.spacing.proofs.signed.negative.Statement.{statement}
 use Rattle.spacing.proofs.signed.negative.Tie as tie
 
-reaches-requires : tie.Need-reaches-requires
-reaches-requires c κs = tt
-
 returns : tie.Need-returns
 returns c = (rw (toZ-ofZ (c .before .fits .z)) at (c .reaches .ensures)) ∙ ap (leZ (pos 1)) (+ℤ-idl (negℤ (c .before .args .z)))
 
 pub negative-spec : {M : Type 1} → statement M
-negative-spec = tie.close (tie.spec reaches-requires returns)
+negative-spec = tie.close (tie.spec (λ c κs. tt) returns)

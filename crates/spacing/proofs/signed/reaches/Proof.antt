@@ -1,19 +1,8 @@
--- `reaches` meets its contract: a negative difference reaches nothing.
--- Assumes nothing.
+-- A negative difference reaches nothing.
 use lib.IntN.{_-ℤ_}
-use Rattle.spacing.proofs.Integers.{
-  difference-fits,
-  difference-read,
-  natAbs-fits,
-  not-negative,
-  reaches-not-negative,
-  reaches-negative,
-}
+use Rattle.spacing.proofs.Integers.{difference-fits, difference-read, natAbs-fits, not-negative, reaches-not-negative, reaches-negative}
 use Rattle.spacing.proofs.signed.reaches.Statement.{statement}
 use Rattle.spacing.proofs.signed.reaches.Tie as tie
-
-difference-requires : tie.Need-difference-requires
-difference-requires c κs = tt
 
 cast-result : tie.Need-cast-result
 cast-result c =
@@ -38,4 +27,4 @@ returns-2 c =
     reaches-negative (v .least) (v .to -ℤ v .from) (rw e at (c .if1 .left))
 
 pub reaches-spec : {M : Type 1} → statement M
-reaches-spec = tie.close (tie.spec difference-requires cast-result returns returns-2)
+reaches-spec = tie.close (tie.spec (λ c κs. tt) cast-result returns returns-2)

@@ -1,5 +1,3 @@
--- `edge_fault` meets its contract.
--- Assumes nothing.
 use mir.Syntax.{w32}
 use mir.Val.{SFits}
 use mir.Facts.{toZ-ofZ}
@@ -7,18 +5,6 @@ use Rattle.spacing.proofs.Faults.{edge-found}
 use borrow.Author.Needs.{needs}
 use Rattle.spacing.proofs.verdict.edge_fault.Statement.{statement}
 use Rattle.spacing.proofs.verdict.edge_fault.Tie as tie
-
-mul-first-outside : tie.Need-mul-first-outside
-mul-first-outside c = search needs
-
-mul-first-outside-2 : tie.Need-mul-first-outside-2
-mul-first-outside-2 c = search needs
-
-first-outside-requires : tie.Need-first-outside-requires
-first-outside-requires c κs = search needs
-
-one-dowel-requires : tie.Need-one-dowel-requires
-one-dowel-requires c κs = search needs
 
 returns : tie.Need-returns
 returns c =
@@ -31,9 +17,4 @@ returns c =
 pub edge-fault-spec : {M : Type 1} → statement M
 edge-fault-spec =
     tie.close
-    (tie.spec
-    mul-first-outside
-    mul-first-outside-2
-    first-outside-requires
-    one-dowel-requires
-    returns)
+    (tie.spec (λ c. search needs) (λ c. search needs) (λ c κs. search needs) (λ c κs. search needs) returns)

@@ -1,48 +1,46 @@
--- `spacing_verdict` meets its contract: member 1 first.
--- Assumes nothing.
-use mathlib.Core.Path.{_≡_, refl}
+-- Member 1 comes first.
+use mathlib.Core.Path.{_≡_}
 use mir.Facts.{toZ-ofZ}
+use Rattle.spacing.specs.declared.view.Which.the-variants.{Member1, Member2}
 use Rattle.spacing.specs.Verdict.{memberVerdict, spacingVerdict}
-use Rattle.spacing.proofs.Faults.{same-verdict, the-first, the-second}
+use Rattle.spacing.proofs.Faults.{the-first, the-second}
 use Rattle.spacing.proofs.verdict.spacing_verdict.Statement.{statement}
 use Rattle.spacing.proofs.verdict.spacing_verdict.Tie as tie
 
-member-verdict-requires : tie.Need-member-verdict-requires
-member-verdict-requires c κs = rw (toZ-ofZ (c .fits .fx), toZ-ofZ (c .fits .fy)) (c .pre)
+viewed-requires : tie.Need-viewed-requires
+viewed-requires c κs = rw (toZ-ofZ (c .fits .fx), toZ-ofZ (c .fits .fy)) (c .pre)
 
 -- the verdicts are those of members 1 and 2
 first-is :
-    (c : tie.After-member-verdict) →
+    (c : tie.After-viewed) →
     let v = c .before .args in
-    c .member-verdict .result ≡ memberVerdict 1 (v .side) (v .d) (v .fx) (v .fy) (v .x) (v .y) (v .count)
-first-is c =
-    same-verdict _ _ 1 _ (c .before .args .side) _ _ _ _ _ _ _ _ (c .member-verdict .ensures) refl refl
-    (toZ-ofZ (c .before .fits .fx)) (toZ-ofZ (c .before .fits .fy))
+    c .viewed .result ≡ memberVerdict Member1 (v .member1) (v .d) (v .fx) (v .fy) (v .x) (v .y) (v .count)
+first-is c = simp (toZ-ofZ (c .before .fits .fx), toZ-ofZ (c .before .fits .fy)) at (c .viewed .ensures)
 
 second-is :
-    (c : tie.After-member-verdict2) →
+    (c : tie.After-viewed2) →
     let v = c .before .before .before .before .args in
-    c .member-verdict2 .result ≡ memberVerdict 2 (v .middle) (v .d) (v .fx) (v .fy) (v .x) (v .y) (v .count)
+    c .viewed2 .result ≡ memberVerdict Member2 (v .member2) (v .d) (v .fx) (v .fy) (v .x) (v .y) (v .count)
 second-is c =
-    let k = c .before .before .before .before in
-    same-verdict _ _ 2 _ (k .args .middle) _ _ _ _ _ _ _ _ (c .member-verdict2 .ensures) refl refl
-    (toZ-ofZ (k .fits .fx)) (toZ-ofZ (k .fits .fy))
+    let k : tie.Start = search in
+    simp (toZ-ofZ (k .fits .fx), toZ-ofZ (k .fits .fy)) at (c .viewed2 .ensures)
 
 returns : tie.Need-returns
 unfolding spacingVerdict
 returns c =
-    the-first _ _ _ (first-is (c .before .before)) (c .if1 .taken)
+    let v : tie.After-viewed = search in
+    the-first _ _ _ (first-is v) (c .if1 .taken)
 
-member-verdict-requires-2 : tie.Need-member-verdict-requires-2
-member-verdict-requires-2 c κs =
-    let k = c .before .before .before in
+viewed-requires-2 : tie.Need-viewed-requires-2
+viewed-requires-2 c κs =
+    let k : tie.Start = search in
     rw (toZ-ofZ (k .fits .fx), toZ-ofZ (k .fits .fy)) (k .pre)
 
 returns-2 : tie.Need-returns-2
 unfolding spacingVerdict
 returns-2 c =
-    the-second _ _ _ _ (first-is (c .before .before .before)) (c .before .if1 .left) (second-is c)
+    let v : tie.After-viewed = search in
+    the-second _ _ _ _ (first-is v) (c .before .if1 .left) (second-is c)
 
 pub spacing-verdict-spec : {M : Type 1} → statement M
-spacing-verdict-spec =
-    tie.close (tie.spec member-verdict-requires returns member-verdict-requires-2 returns-2)
+spacing-verdict-spec = tie.close (tie.spec viewed-requires returns viewed-requires-2 returns-2)

@@ -1,5 +1,3 @@
--- `square` meets its contract.
--- Assumes nothing.
 use mathlib.Core.Path.{_≡_, ap₂}
 use Prim.Native.Nat.{_*_}
 use native.Mathlib.Nat.{mul-le-mul}
@@ -7,11 +5,8 @@ use lib.IntN.{natAbs}
 use mir.Facts.{toZ-ofZ}
 use native.Mathlib.Omega.{arith}
 use borrow.Author.Needs.{needs}
-use Rattle.spacing.proofs.limit.square.Statement.{statement}
-use Rattle.spacing.proofs.limit.square.Tie as tie
-
-size-requires : tie.Need-size-requires
-size-requires c κs = search needs
+use Rattle.spacing.proofs.force.square.Statement.{statement}
+use Rattle.spacing.proofs.force.square.Tie as tie
 
 e : (c : tie.After-size) → c .size .result ≡ natAbs (c .before .args .f)
 e c = rw (toZ-ofZ (c .before .fits .f)) at (c .size .ensures)
@@ -23,4 +18,4 @@ returns : tie.Need-returns
 returns c = ap₂ _*_ (e c) (e c)
 
 pub square-spec : {M : Type 1} → statement M
-square-spec = tie.close (tie.spec size-requires mul-result returns)
+square-spec = tie.close (tie.spec (λ c κs. search needs) mul-result returns)
