@@ -36,12 +36,15 @@ clear s h = go (eqb (refusalNumber s) 0) refl h
     go true e k = record { number = eqb-true (refusalNumber s) 0 e; drill = k }
     go false e k = absurd (eqb-false (refusalNumber s) 0 e k)
 
+-- so its fields are within their limits
+pub accepted-fields : (s : List ℕ) → Accepted s → not (fieldsWithin (valuesOf s)) ≡ false
+accepted-fields s h = unnumbered s .0 (clear s h .number) .none 6
+
 pub accepted-passed : (s : List ℕ) → Accepted s → Passed (valuesOf s)
 accepted-passed s h =
     let k = clear s h in
-    let none = unnumbered s .0 (k .number) in
-    let seven : not (fieldsWithin (valuesOf s)) ≡ false = none .none 6 in
-    let nine : noForce (valuesOf s .loads) ≡ false = none .none 8 in
+    let seven = accepted-fields s h in
+    let nine : noForce (valuesOf s .loads) ≡ false = unnumbered s .0 (k .number) .none 8 in
     record { fields = fields-hold (valuesOf s) seven; given = given (valuesOf s) seven nine; drill = k .drill }
 
 -- its refusal is 0 throughout

@@ -1,0 +1,4 @@
+pub mod SpacingSame
+pub mod RowsSame
+pub mod UseSame
+pub mod ClaimSame
