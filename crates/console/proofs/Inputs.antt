@@ -16,7 +16,7 @@ use Rattle.line.specs.Line.{Lined}
 use Rattle.console.specs.declared.Came.{Came}
 use Rattle.console.specs.declared.Came.the-variants.{Bytes}
 use Rattle.console.specs.declared.Reply.{Reply}
-use Rattle.console.specs.Input.{bytesOf, failed, unread, Bare, InputJudged, Reported, lineWhen, Told, Answered, inputReport, InputReported}
+use Rattle.console.specs.Input.{countOf, failed, unread, Bare, InputJudged, Said, lineWhen, Told, Replied, inputReport, InputReported}
 
 pub bare : (number : ℕ) (r : Report) → r ≡ unanswered (fault number 0 0 0) → Bare number r
 unfolding unanswered
@@ -52,10 +52,10 @@ pub both : (buffer : List ℕ) (count : ℕ) (more : Bool) (r : Report) → r �
 both buffer count more r e = record { claim = input-says buffer count more r e; is = e }
 
 -- the bytes of a read into a part of a buffer from `done` on
-pub brought : (came : Came) (n done : ℕ) (buffer : List ℕ) → came ≡ Bytes n → bytesOf came ≤ length (midOf done (length buffer - done) buffer)
+pub brought : (came : Came) (n done : ℕ) (buffer : List ℕ) → came ≡ Bytes n → countOf came ≤ length (midOf done (length buffer - done) buffer)
     → n ≤ length buffer - done
 brought came n done buffer e h =
-    le-trans (subst (λ (x : Came). bytesOf x ≤ length (midOf done (length buffer - done) buffer)) e h)
+    le-trans (subst (λ (x : Came). countOf x ≤ length (midOf done (length buffer - done) buffer)) e h)
     (le-of-eq (mid-len done (length buffer) buffer (le-refl (length buffer))))
 
 -- whether a read failed, from what was asked of each
@@ -63,8 +63,8 @@ pub unread-is : (first second : Came) (a b t : Bool) → a ≡ failed first → 
 unread-is first second a b t p q h = (λ i. sym p i || sym q i) ∙ h
 
 -- nothing judged, and no line
-pub not-told : (first second : Came) (buffer line : List ℕ) (count next : ℕ) (report : Report) → count ≡ bytesOf first
-    → next ≡ bytesOf second → unread first second ≡ true → report ≡ unanswered (fault 0 0 0 0)
+pub not-told : (first second : Came) (buffer line : List ℕ) (count next : ℕ) (report : Report) → count ≡ countOf first
+    → next ≡ countOf second → unread first second ≡ true → report ≡ unanswered (fault 0 0 0 0)
     → Told first second buffer
     (record { first = first; second = second; count = count; more = not (eqb next 0); report = report; line = line; length = 0 })
 not-told first second buffer line count next report p q u e = record {
@@ -72,15 +72,15 @@ not-told first second buffer line count next report p q u e = record {
   asked-more = refl;
   count = p;
   more = ap (λ (n : ℕ). not (eqb n 0)) q;
-  report = subst (λ (b : Bool). Reported b buffer count (not (eqb next 0)) report) (sym u) (bare 0 report e);
+  report = subst (λ (b : Bool). Said b buffer count (not (eqb next 0)) report) (sym u) (bare 0 report e);
   within = omega arith;
   counted = refl;
   line = ap (λ (b : Bool). lineWhen b report) (sym u);
 }
 
 -- a report with its line
-pub is-told : (first second : Came) (buffer line : List ℕ) (count next n : ℕ) (report : Report) → count ≡ bytesOf first
-    → next ≡ bytesOf second → unread first second ≡ false → report ≡ inputReport buffer count (not (eqb next 0)) → Lined report line n
+pub is-told : (first second : Came) (buffer line : List ℕ) (count next n : ℕ) (report : Report) → count ≡ countOf first
+    → next ≡ countOf second → unread first second ≡ false → report ≡ inputReport buffer count (not (eqb next 0)) → Lined report line n
     → Told first second buffer
     (record { first = first; second = second; count = count; more = not (eqb next 0); report = report; line = line; length = n })
 is-told first second buffer line count next n report p q u e made = record {
@@ -88,15 +88,15 @@ is-told first second buffer line count next n report p q u e made = record {
   asked-more = refl;
   count = p;
   more = ap (λ (m : ℕ). not (eqb m 0)) q;
-  report = subst (λ (b : Bool). Reported b buffer count (not (eqb next 0)) report) (sym u) (input-says buffer count (not (eqb next 0)) report e);
+  report = subst (λ (b : Bool). Said b buffer count (not (eqb next 0)) report) (sym u) (input-says buffer count (not (eqb next 0)) report e);
   within = made .within;
   counted = made .counted;
   line = made .line ∙ ap (λ (b : Bool). lineWhen b report) (sym u);
 }
 
 -- of what came, as the reply keeps it
-pub answered : (first second : Came) (buffer : List ℕ) (a : Reply) → Told first second buffer a → bytesOf first ≤ 4096 → Answered buffer a
-answered first second buffer a t most = record {
+pub replied : (first second : Came) (buffer : List ℕ) (a : Reply) → Told first second buffer a → countOf first ≤ 4096 → Replied buffer a
+replied first second buffer a t most = record {
   told =
       subst (λ (x : Came). Told x (a .second) buffer a) (sym (t .asked))
       (subst (λ (x : Came). Told first x buffer a) (sym (t .asked-more)) t);

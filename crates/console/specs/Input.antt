@@ -16,9 +16,9 @@ use Rattle.console.specs.declared.Reply.{Reply}
 
 -- The program asks twice: for up to 4,096 bytes, then for one byte more. Each time some bytes come, none at the end of the input, or
 -- a read fails.
-abbrev pub bytesOf : Came → ℕ
-bytesOf (Bytes n) = n
-bytesOf Failed = 0
+abbrev pub countOf : Came → ℕ
+countOf (Bytes n) = n
+countOf Failed = 0
 
 abbrev pub failed : Came → Bool
 failed (Bytes n) = false
@@ -30,7 +30,7 @@ unread first second = failed first || failed second
 
 -- more than 4,096 bytes came
 abbrev pub moreOf : Came → Bool
-moreOf second = not (eqb (bytesOf second) 0)
+moreOf second = not (eqb (countOf second) 0)
 
 -- a number, no place and no figures
 pub record Bare (number : ℕ) (r : Report) : Type 0 where
@@ -45,9 +45,9 @@ abbrev pub InputJudged : List ℕ → ℕ → Bool → Report → Type 0
 InputJudged buffer count true r = Bare 4 r
 InputJudged buffer count false r = Judged (take count buffer) r
 
-abbrev pub Reported : Bool → List ℕ → ℕ → Bool → Report → Type 0
-Reported true buffer count more r = Bare 0 r
-Reported false buffer count more r = InputJudged buffer count more r
+abbrev pub Said : Bool → List ℕ → ℕ → Bool → Report → Type 0
+Said true buffer count more r = Bare 0 r
+Said false buffer count more r = InputJudged buffer count more r
 
 -- 'and writes one line'
 abbrev pub lineWhen : Bool → Report → List ℕ
@@ -58,15 +58,15 @@ lineWhen false r = lineOf r
 pub record Told (first second : Came) (buffer : List ℕ) (a : Reply) : Type 0 where
   pub asked : a .first ≡ first
   pub asked-more : a .second ≡ second
-  pub count : a .count ≡ bytesOf first
+  pub count : a .count ≡ countOf first
   pub more : a .more ≡ moreOf second
-  pub report : Reported (unread first second) buffer (a .count) (a .more) (a .report)
+  pub report : Said (unread first second) buffer (a .count) (a .more) (a .report)
   pub within : a .length ≤ length (a .line)
   pub counted : a .length ≡ length (take (a .length) (a .line))
   pub line : take (a .length) (a .line) ≡ lineWhen (unread first second) (a .report)
 
 -- 'The program reads standard input up to 4,096 bytes'
-pub record Answered (buffer : List ℕ) (a : Reply) : Type 0 where
+pub record Replied (buffer : List ℕ) (a : Reply) : Type 0 where
   pub told : Told (a .first) (a .second) buffer a
   pub most : a .count ≤ 4096
 

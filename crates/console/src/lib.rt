@@ -8,7 +8,7 @@ ghost use Prim.Native.Nat.{_≤_};
 ghost use lib.ListN.{length};
 ghost use Rattle.spacing.specs.Verdict.{fault};
 ghost use Rattle.joint.specs.Returned.{unanswered};
-ghost use Rattle.console.specs.Input.{bytesOf, failed, InputReported, Told, Answered};
+ghost use Rattle.console.specs.Input.{countOf, failed, InputReported, Told, Replied};
 
 // The most bytes that are read: more are refusal 4, before any other test.
 pub const MOST_BYTES: usize = 4096;
@@ -32,8 +32,8 @@ pub struct Reply {
     pub length: usize,
 }
 
-fn bytes_of(came: Came) -> usize
-    ensures { λ r. ⌜ r ≡ bytesOf came ⌝ }
+fn count_of(came: Came) -> usize
+    ensures { λ r. ⌜ r ≡ countOf came ⌝ }
 {
     match came {
         Came::Bytes(n) => n,
@@ -82,7 +82,7 @@ pub fn judge_input(buffer: &[u8], count: usize, more: bool) -> Report
 
 // One read into a part of the buffer.
 fn read_part(fd: i32, part: &mut [u8]) -> Came
-    ensures { λ r. ⌜ bytesOf r ≤ length (now (part .entry)) ⌝ }
+    ensures { λ r. ⌜ countOf r ≤ length (now (part .entry)) ⌝ }
 {
     let got = libc::read(fd, part);
     if got < 0 {
@@ -93,7 +93,7 @@ fn read_part(fd: i32, part: &mut [u8]) -> Came
 
 // Reads again and again until the buffer is full, the input ends or a read fails.
 fn fill(fd: i32, buffer: &mut [u8]) -> Came
-    ensures { λ r. ⌜ bytesOf r ≤ length (now (buffer .entry)) ⌝ }
+    ensures { λ r. ⌜ countOf r ≤ length (now (buffer .entry)) ⌝ }
 {
     let mut done = 0;
     while done < buffer.len() {
@@ -122,8 +122,8 @@ fn one_more(fd: i32, first: Came) -> Came {
 pub fn told(first: Came, second: Came, buffer: &[u8]) -> Reply
     ensures { λ r. ⌜ Told first second (now (buffer .entry)) r ⌝ }
 {
-    let count = bytes_of(first);
-    let more = bytes_of(second) != 0;
+    let count = count_of(first);
+    let more = count_of(second) != 0;
     let mut line = [0u8; LONGEST];
     if has_failed(first) | has_failed(second) {
         let report = without_figures(0);
@@ -152,7 +152,7 @@ pub fn told(first: Came, second: Came, buffer: &[u8]) -> Reply
 
 // Reads a record into the buffer and judges it. Nothing is written.
 pub fn judged(fd: i32, buffer: &mut [u8; MOST_BYTES]) -> Reply
-    ensures { λ r. ⌜ Answered (now (buffer .exit)) r ⌝ }
+    ensures { λ r. ⌜ Replied (now (buffer .exit)) r ⌝ }
 {
     let first = fill(fd, buffer);
     let second = one_more(fd, first);
@@ -162,7 +162,7 @@ pub fn judged(fd: i32, buffer: &mut [u8; MOST_BYTES]) -> Reply
 // Reads a record into the buffer, judges it and writes its line by one write, which goes on with the rest where it was short. Where a
 // read fails nothing is written but what failed, on standard error; so too where the write fails.
 pub fn answer(fd: i32, buffer: &mut [u8; MOST_BYTES]) -> Reply
-    ensures { λ r. ⌜ Answered (now (buffer .exit)) r ⌝ }
+    ensures { λ r. ⌜ Replied (now (buffer .exit)) r ⌝ }
 {
     let a = judged(fd, buffer);
     let line = a.line;

@@ -1,7 +1,7 @@
 -- What the reads brought, as `told` keeps it.
 use native.Mathlib.Omega.{arith}
 use borrow.Author.Needs.{needs}
-use Rattle.console.proofs.Inputs.{answered}
+use Rattle.console.proofs.Inputs.{replied}
 use Rattle.console.proofs.judged.Statement.{statement}
 use Rattle.console.proofs.judged.Tie as tie
 
@@ -17,7 +17,7 @@ told-requires c κs = search needs
 returns : tie.Need-returns
 returns c =
     let f = c .before .before .before .before in
-    answered (f .fill .result) (c .before .before .before .one-more .result) _ (c .told .result) (c .told .ensures)
+    replied (f .fill .result) (c .before .before .before .one-more .result) _ (c .told .result) (c .told .ensures)
     (omega (arith, f .fill .ensures, f .fill .kept))
 
 pub judged-spec : {M : Type 1} → statement M

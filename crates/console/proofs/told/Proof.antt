@@ -5,11 +5,11 @@ use Rattle.console.proofs.Inputs.{unread-is, not-told, is-told}
 use Rattle.console.proofs.told.Statement.{statement}
 use Rattle.console.proofs.told.Tie as tie
 
-bytes-of-requires : tie.Need-bytes-of-requires
-bytes-of-requires c κs = search needs
+count-of-requires : tie.Need-count-of-requires
+count-of-requires c κs = search needs
 
-bytes-of-requires-2 : tie.Need-bytes-of-requires-2
-bytes-of-requires-2 c κs = search needs
+count-of-requires-2 : tie.Need-count-of-requires-2
+count-of-requires-2 c κs = search needs
 
 has-failed-requires : tie.Need-has-failed-requires
 has-failed-requires c κs = search needs
@@ -26,7 +26,7 @@ returns c =
     let b = f .before .before in
     let a = b .before .before .args in
     let u = unread-is (a .first) (a .second) _ _ true (f .has-failed .ensures) (c .before .before .has-failed2 .ensures) (c .before .if1 .taken) in
-    not-told (a .first) (a .second) (a .buffer .now) _ _ _ (c .without-figures .result) (b .bytes-of .ensures) (f .before .bytes-of2 .ensures) u (c .without-figures .ensures)
+    not-told (a .first) (a .second) (a .buffer .now) _ _ _ (c .without-figures .result) (b .count-of .ensures) (f .before .count-of2 .ensures) u (c .without-figures .ensures)
 
 judge-input-requires : tie.Need-judge-input-requires
 judge-input-requires c κs = search needs
@@ -42,15 +42,15 @@ returns-2 c =
     let a = b .before .before .args in
     let u = unread-is (a .first) (a .second) _ _ false (f .has-failed .ensures) (i .before .has-failed2 .ensures) (i .if1 .left) in
     let j = c .before .before .judge-input in
-    is-told (a .first) (a .second) (a .buffer .now) _ (b .bytes-of .result) (f .before .bytes-of2 .result) _ (j .result) (b .bytes-of .ensures)
-    (f .before .bytes-of2 .ensures) u (j .ensures .is) (c .line-of .ensures)
+    is-told (a .first) (a .second) (a .buffer .now) _ (b .count-of .result) (f .before .count-of2 .result) _ (j .result) (b .count-of .ensures)
+    (f .before .count-of2 .ensures) u (j .ensures .is) (c .line-of .ensures)
 
 pub told-spec : {M : Type 1} → statement M
 told-spec =
     tie.close
     (tie.spec
-    bytes-of-requires
-    bytes-of-requires-2
+    count-of-requires
+    count-of-requires-2
     has-failed-requires
     has-failed-requires-2
     without-figures-requires
