@@ -8,8 +8,8 @@ use factors::Factor;
 use libc::STDOUT_FILENO;
 use strength::capacity;
 use strength::moment;
-use strength::plane::Member;
 use strength::plane::Plane;
+use strength::plane::Timber;
 use tables::Table;
 ghost use Prim.Native.Nat.{_≤_};
 
@@ -97,7 +97,7 @@ fn off(value: u64, printed: u64, unit: u64) -> u64
 fn example(moment: u64, capacity: u64) -> Tally
     requires { ⌜ ((10 ≤ moment) × (moment ≤ 1000000)) × ((1 ≤ capacity) × (capacity ≤ 1000000)) ⌝ }
 {
-    let m = Member {
+    let m = Timber {
         density: 425,
         k90: strength::tables::k90_softwood(16),
         along: 1,
@@ -105,8 +105,8 @@ fn example(moment: u64, capacity: u64) -> Tally
         thickness: 800,
     };
     let c = capacity::capacity_thousandths(Plane {
-        side: m,
-        other: m,
+        member1: m,
+        member2: m,
         diameter: 16,
         steel: 360,
         planes: 1,

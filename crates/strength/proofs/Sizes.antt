@@ -17,7 +17,7 @@ use native.Mathlib.Omega.{arith}
 use mathlib.Core.Path.{_≡_, ap}
 use lib.Dec.{lit<, lit≤}
 use lib.Pow.{pow-add}
-use Rattle.strength.specs.declared.plane.Member.{Member}
+use Rattle.strength.specs.declared.plane.Timber.{Timber}
 use Rattle.strength.specs.declared.plane.Plane.{Plane}
 use Rattle.strength.specs.Roots.{FifthRoot}
 use Rattle.strength.specs.Leaves.{BearingWithin}
@@ -42,7 +42,7 @@ module _ {density k90 along total : ℕ} (w : BearingWithin density k90 along to
   den-short = lt-of-le-of-lt den-most (product-bits 11 62 (lit< tt) (w .force-high))
 
 -- the ranges make the bearings' ratios: 9 n ≤ 10 D
-module _ (m : Member) (w : MemberWithin m) where
+module _ (m : Timber) (w : MemberWithin m) where
   pub num-positive : 0 < bearingNum m
   num-positive = mul-pos (omega (arith, w .density-low)) (w .force)
 
@@ -87,7 +87,7 @@ pub factor-slope : (d : ℕ) → 6 ≤ d → dowelFactor d ≤ 7708 * d
 factor-slope d low = mul-le-mul-right d (mul-le-mul-left {n = 94} 82 (omega arith))
 
 -- 1000 f d t is at most 2^30
-pub force-bound : (d : ℕ) (m : Member) → 6 ≤ d → d ≤ 30 → MemberWithin m → forceOf d m ≤ 1073741824 * bearingDen m
+pub force-bound : (d : ℕ) (m : Timber) → 6 ≤ d → d ≤ 30 → MemberWithin m → forceOf d m ≤ 1073741824 * bearingDen m
 force-bound d m low high w =
     let a : dowelFactor d * m .thickness ≤ 924960000 = mul-le-mul (factor-bound d low high) (w .thickness-high) in
     go (dowelFactor d * m .thickness) (bearingNum m) (bearingDen m) a (ratio-bound m w)
@@ -150,18 +150,18 @@ module _ (d fu : ℕ) (d-low : 6 ≤ d) (d-high : d ≤ 30) (fu-low : 300 ≤ fu
 module _ (p : Plane) (w : PlaneWithin p) where
   pub sum-positive : 0 < crossSum p
   sum-positive =
-      omega (arith, mul-pos (num-positive (p .side) (w .side)) (den-positive (p .other) (w .other)))
+      omega (arith, mul-pos (num-positive (p .member1) (w .member1)) (den-positive (p .member2) (w .member2)))
 
   -- 9 n1 n2 ≤ 10 S
-  pub product-bound : 9 * (bearingNum (p .side) * bearingNum (p .other)) ≤ 10 * crossSum p
+  pub product-bound : 9 * (bearingNum (p .member1) * bearingNum (p .member2)) ≤ 10 * crossSum p
   product-bound =
-      go (bearingNum (p .side)) (bearingDen (p .side)) (bearingNum (p .other)) (bearingDen (p .other))
-      (ratio-bound (p .side) (w .side))
+      go (bearingNum (p .member1)) (bearingDen (p .member1)) (bearingNum (p .member2)) (bearingDen (p .member2))
+      (ratio-bound (p .member1) (w .member1))
     where
       go : (n1 D1 n2 D2 : ℕ) → 9 * n1 ≤ 10 * D1 → 9 * (n1 * n2) ≤ 10 * (n1 * D2 + n2 * D1)
       go n1 D1 n2 D2 h = omega (arith, mul-le-mul-right n2 h)
 
   pub sum-high : crossSum p < 2 ^ 147
   sum-high =
-      sum-bits 146 (product-bits 73 73 (num-bits (p .side) (w .side)) (den-bits (p .other) (w .other)))
-      (product-bits 73 73 (num-bits (p .other) (w .other)) (den-bits (p .side) (w .side)))
+      sum-bits 146 (product-bits 73 73 (num-bits (p .member1) (w .member1)) (den-bits (p .member2) (w .member2)))
+      (product-bits 73 73 (num-bits (p .member2) (w .member2)) (den-bits (p .member1) (w .member1)))

@@ -2,7 +2,7 @@
 use Prim.Native.Nat.{ℕ, _+_, _*_, _-_, _^_, _≤_, _<_}
 use mathlib.Core.Path.{_≡_}
 use Rattle.wide.specs.Natural.{value}
-use Rattle.strength.specs.declared.plane.Member.{Member}
+use Rattle.strength.specs.declared.plane.Timber.{Timber}
 use Rattle.strength.specs.declared.terms.Bearing.{Bearing}
 use Rattle.strength.specs.declared.terms.Joined.{Joined}
 use Rattle.strength.specs.Working.{bearingNum, bearingDen}
@@ -31,8 +31,8 @@ pub record JoinedFrom (num1 den1 num2 den2 : ℕ) (j : Joined) : Type 0 where
   pub nums : value (j .nums) ≡ num1 * num2
 
 -- of both members' bearings
-abbrev pub JoinedOf : Member → Member → Joined → Type 0
-JoinedOf side other j = JoinedFrom (bearingNum side) (bearingDen side) (bearingNum other) (bearingDen other) j
+abbrev pub JoinedOf : Timber → Timber → Joined → Type 0
+JoinedOf member1 member2 j = JoinedFrom (bearingNum member1) (bearingDen member1) (bearingNum member2) (bearingDen member2) j
 
 -- two numbers of at most k bits
 pub record Bits (k a b : ℕ) : Type 0 where
@@ -40,15 +40,15 @@ pub record Bits (k a b : ℕ) : Type 0 where
   pub second : b < 2 ^ k
 
 -- a part of a whole
-pub record Part (part whole : ℕ) : Type 0 where
+pub record Portion (part whole : ℕ) : Type 0 where
   pub below : part ≤ whole
   pub positive : 0 < whole
   pub bits : whole < 2 ^ 147
 
 -- s² and c² are such parts
 pub record Parted (j : Joined) : Type 0 where
-  pub s : Part (value (j .cross2)) (value (j .whole))
-  pub c : Part (value (j .cross1)) (value (j .whole))
+  pub s : Portion (value (j .cross2)) (value (j .whole))
+  pub c : Portion (value (j .cross1)) (value (j .whole))
 
 -- what the first term is made of: the dowel's factor k, the yield moment m, the product of the numerators, the sum
 pub record FirstWithin (k m nums whole : ℕ) : Type 0 where

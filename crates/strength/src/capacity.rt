@@ -53,14 +53,14 @@ pub fn capacity_thousandths(p: Plane) -> u64
     requires { ⌜ PlaneWithin p ⌝ }
     ensures { λ r. ⌜ CapacityThousandths p r ⌝ }
 {
-    let side = p.side;
-    let other = p.other;
+    let member1 = p.member1;
+    let member2 = p.member2;
     let k = 82 * (100 - p.diameter) * p.diameter;
     let m = moment::yield_moment(p.diameter, p.steel);
-    let j = terms::join(side, other);
+    let j = terms::join(member1, member2);
     let by_dowel = first(k, m, j);
-    let by_side = second(k * side.thickness, j);
-    let by_other = third(p.planes, k * other.thickness, j);
+    let by_side = second(k * member1.thickness, j);
+    let by_other = third(p.planes, k * member2.thickness, j);
     terms::least(terms::least(by_dowel, by_side), by_other)
 }
 

@@ -10,7 +10,7 @@ use Rattle.strength.specs.Figures.{CapacityThousandths}
 use Rattle.strength.specs.Working.{capacityOf}
 use Rattle.strength.proofs.Sizes.{factor-bound}
 use Rattle.strength.proofs.Capacities.{capacity-low, capacity-high}
-use Rattle.strength.proofs.Joins.{force-fits, first-within, parted, side-force, other-force, gathered}
+use Rattle.strength.proofs.Joins.{force-fits, first-within, parted, force-1, force-2, gathered}
 use Rattle.strength.proofs.capacity.capacity_thousandths.Statement.{statement}
 use Rattle.strength.proofs.capacity.capacity_thousandths.Tie as tie
 
@@ -42,25 +42,25 @@ first-requires c κs =
 mul-second : tie.Need-mul-second
 mul-second c =
     let start = c .before .before .before .before .before .before .before .before in
-    record { fits = lt-of-le-of-lt (force-fits _ (start .pre) _ (start .pre .side)) (lit< tt) }
+    record { fits = lt-of-le-of-lt (force-fits _ (start .pre) _ (start .pre .member1)) (lit< tt) }
 
 second-requires : tie.Need-second-requires
 second-requires c κs =
     let joined = c .before .before in
     let start = joined .before .before .before .before .before .before in
-    (side-force (start .pre) (joined .join .ensures), parted (start .pre) (joined .join .ensures))
+    (force-1 (start .pre) (joined .join .ensures), parted (start .pre) (joined .join .ensures))
 
 mul-third : tie.Need-mul-third
 mul-third c =
     let joined = c .before .before .before .before in
     let start = joined .before .before .before .before .before .before in
-    record { fits = lt-of-le-of-lt (force-fits _ (start .pre) _ (start .pre .other)) (lit< tt) }
+    record { fits = lt-of-le-of-lt (force-fits _ (start .pre) _ (start .pre .member2)) (lit< tt) }
 
 third-requires : tie.Need-third-requires
 third-requires c κs =
     let joined = c .before .before .before .before in
     let start = joined .before .before .before .before .before .before in
-    (other-force (start .pre) (joined .join .ensures), parted (start .pre) (joined .join .ensures))
+    (force-2 (start .pre) (joined .join .ensures), parted (start .pre) (joined .join .ensures))
 
 least-requires : tie.Need-least-requires
 least-requires c κs = search needs
