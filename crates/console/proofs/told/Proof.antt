@@ -26,7 +26,8 @@ returns c =
     let b = f .before .before in
     let a = b .before .before .args in
     let u = unread-is (a .first) (a .second) _ _ true (f .has-failed .ensures) (c .before .before .has-failed2 .ensures) (c .before .if1 .taken) in
-    not-told (a .first) (a .second) (a .buffer .now) _ _ _ (c .without-figures .result) (b .count-of .ensures) (f .before .count-of2 .ensures) u (c .without-figures .ensures)
+    let w = c .without-figures in
+    not-told (a .first) (a .second) (a .buffer .now) _ _ _ (w .result) (b .count-of .ensures) (f .before .count-of2 .ensures) u (w .ensures)
 
 judge-input-requires : tie.Need-judge-input-requires
 judge-input-requires c κs = search needs

@@ -38,7 +38,8 @@ returns c =
     let b = c .before .before .before .before .before .before .before in
     let d = b .before .before .before .decimal in
     let a = b .before .before .before .before .before .before .args in
-    field-added (d .last .1 .0) (d .result) (a .n) (b .put .ensures) (c .before .before .put2 .ensures) (d .ensures .0) (d .ensures .1 .0) (d .ensures .1 .1) (search needs)
+    let e = d .ensures in
+    field-added (d .last .1 .0) (d .result) (a .n) (b .put .ensures) (c .before .before .put2 .ensures) (e .0) (e .1 .0) (e .1 .1) (search needs)
 
 pub put-field-spec : {M : Type 1} → statement M
 put-field-spec =

@@ -36,19 +36,25 @@ same-length : tie.Need-same-length
 same-length c = search needs
 
 returns : tie.Need-returns
-returns c = lined Fits (c .before .before .before .before .before .before .before .before .args .r) (search needs) (search needs) (c .before .before .put-figures .ensures)
+returns c =
+    let start = c .before .before .before .before .before .before .before .before in
+    lined Fits (start .args .r) (search needs) (search needs) (c .before .before .put-figures .ensures)
 
 same-length-2 : tie.Need-same-length-2
 same-length-2 c = search needs
 
 returns-2 : tie.Need-returns-2
-returns-2 c = lined Overloaded (c .before .before .before .before .before .before .before .before .args .r) (search needs) (search needs) (c .before .before .put-figures2 .ensures)
+returns-2 c =
+    let start = c .before .before .before .before .before .before .before .before in
+    lined Overloaded (start .args .r) (search needs) (search needs) (c .before .before .put-figures2 .ensures)
 
 same-length-3 : tie.Need-same-length-3
 same-length-3 c = search needs
 
 returns-3 : tie.Need-returns-3
-returns-3 c = lined Refused (c .before .before .before .before .before .before .before .before .args .r) (search needs) (search needs) (c .before .before .put-place .ensures)
+returns-3 c =
+    let start = c .before .before .before .before .before .before .before .before in
+    lined Refused (start .args .r) (search needs) (search needs) (c .before .before .put-place .ensures)
 
 pub put-line-spec : {M : Type 1} → statement M
 put-line-spec =

@@ -1,4 +1,4 @@
--- `demand::scaled_force` meets its contract: the whole root is unique.
+-- The whole root is unique.
 use native.Mathlib.Omega.{arith}
 use borrow.Author.Needs.{needs}
 use mathlib.Core.Path.{ap}
