@@ -136,7 +136,8 @@ module _ (v : Values) (p : Passed v) where
   passes u m h =
       let s = bracket m .some in
       let e = shareOver (of m .share + 2) (s .n) in
-      let pn : 0 < s .n = rw (s .is .number) (row-some (across (m .grain) (v .positions .x) (v .positions .y)) (v .positions .n) (s .is .dowel) (s .is .within)) in
+      let b = across (m .grain) (v .positions .x) (v .positions .y) in
+      let pn : 0 < s .n = rw (s .is .number) (row-some b (v .positions .n) (s .is .dowel) (s .is .within)) in
       let pe : Above0 e = record { num = mul-pos (omega arith) pn; den = lit< tt } in
       (s .n, pn, h (s .n) (s .a1) (s .is) e pe (above-not-below (j .diameter) (s .n) (s .a1) e (s .above)))
 

@@ -16,7 +16,7 @@ use Rattle.group.specs.Rows.{sameRow, rowNumber, LeastDistance, IsRow, NotAbove
 use Rattle.group.specs.Rows.NotBelow.{all, several}
 use Rattle.group.specs.Share as working
 use Rattle.group.proofs.Counting.{least-from, least-below}
-use Rattle.group.proofs.RowLaws.{other-of, nearest-least, least-distance}
+use Rattle.group.proofs.RowLaws.{mate-of, nearest-least, least-distance}
 use Rattle.restated.specs.Rows as old
 
 -- ---- a distance is at most both sizes together
@@ -72,7 +72,7 @@ module _ (a b : List ℤ) (count : ℕ) (limits : (j : ℕ) → j < count → na
       above =
           least-from 200000 (sameRow b i) (working.nearest 200000 a b count) count a1 small (λ j hj r.
           least-from 200000 (working.other b j) (distance a j) count a1 small (λ k hk o.
-          let t = other-of b j k o in
+          let t = mate-of b j k o in
           l .least j k hj hk (t .differ) r (row-of-row i j k r (t .same))))
         where
           row-of-row : (i j k : ℕ) → sameRow b i j ≡ true → sameRow b j k ≡ true → sameRow b i k ≡ true

@@ -1,4 +1,3 @@
--- `figures::twice_planes` meets its contract.
 use native.Mathlib.Omega.{arith}
 use borrow.Author.Tests.{eq-eqb, ne-eqb}
 use Rattle.joint.proofs.UseSizes.{planes-small}

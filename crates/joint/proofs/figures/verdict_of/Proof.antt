@@ -1,4 +1,3 @@
--- `figures::verdict_of` meets its contract.
 use native.Mathlib.Omega.{arith}
 use Rattle.joint.proofs.Claims.{fits, overloaded}
 use Rattle.joint.proofs.figures.verdict_of.Statement.{statement}
