@@ -18,7 +18,7 @@ use Rattle.group.specs.Rows.{sameRow, rowNumber}
 use Rattle.group.specs.Share.{units, rowPasses, memberShare, other, nearest}
 use Rattle.group.proofs.Counting.{count-bound, least-from}
 use Rattle.group.proofs.Shares.{all-true, both-true, greatest-from}
-use Rattle.group.proofs.RowLaws.{other-of}
+use Rattle.group.proofs.RowLaws.{mate-of}
 
 -- ---- two dowels of a row that are not too close
 alone : (s : Bool) → s || false ≡ true → s ≡ true
@@ -54,7 +54,7 @@ module _ (v : Frame) (d : ℕ) (a b : List ℤ) (count : ℕ) (some : 1 ≤ d) (
   near-from : (i : ℕ) → i < count → 30 * d ≤ nearest 200000 a b count i
   near-from i h =
       least-from 200000 (other b i) (distance a i) count (30 * d) (omega arith) (λ k hk o.
-      let t = other-of b i k o in
+      let t = mate-of b i k o in
       either i k h hk (t .differ) (eqb-true _ _ (t .same)))
 
 -- ---- 0.4 of 64 dowels at 3d

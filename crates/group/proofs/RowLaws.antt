@@ -40,12 +40,12 @@ other-is b j k s h = let n : not (eqb j k) ≡ true = rw (ne-eqb j k h) in rw (s
 other-differs : (j k : ℕ) → not (eqb j k) ≡ true → j ≡ k → ⊥
 other-differs j k h e = true≢false (sym (eq-eqb j k e) ∙ not-true (eqb j k) h)
 
-pub record Other (b : List ℤ) (i j : ℕ) : Type 0 where
+pub record Mate (b : List ℤ) (i j : ℕ) : Type 0 where
   pub same : sameRow b i j ≡ true
   pub differ : i ≡ j → ⊥
 
-pub other-of : (b : List ℤ) (i j : ℕ) → other b i j ≡ true → Other b i j
-other-of b i j h =
+pub mate-of : (b : List ℤ) (i j : ℕ) → other b i j ≡ true → Mate b i j
+mate-of b i j h =
     let p = both-true (sameRow b i j) (not (eqb i j)) h in
     record { same = p .0; differ = other-differs i j (p .1) }
 
@@ -68,27 +68,27 @@ module _ (a b : List ℤ) (count : ℕ) where
   pub record Near (cap i : ℕ) : Type 0 where
     pub two : ℕ
     pub two-within : two < count
-    pub other : Other b i two
+    pub mate : Mate b i two
     pub attained : nearest cap a b count i ≡ distance a i two
 
   pub near : (cap i : ℕ) → nearest cap a b count i < cap → Near cap i
   near cap i h =
       let o = least-attained cap (other b i) (distance a i) count h in
-      record { two = o .one; two-within = o .within; other = other-of b i (o .one) (o .passes); attained = o .least }
+      record { two = o .one; two-within = o .within; mate = mate-of b i (o .one) (o .passes); attained = o .least }
 
   pub near-several : (cap i : ℕ) → i < count → Near cap i → 1 < rowNumber b count i
   near-several cap i h n = go (decLt i (n .two))
     where
       go : Dec (i < n .two) → 1 < rowNumber b count i
-      go (yes p) = count-two (sameRow b i) count i (n .two) p (n .two-within) (own-row b i) (n .other .same)
+      go (yes p) = count-two (sameRow b i) count i (n .two) p (n .two-within) (own-row b i) (n .mate .same)
       go (no p) =
-          count-two (sameRow b i) count (n .two) i (omega (arith, lt-of-not-le p, n .other .differ)) h (n .other .same) (own-row b i)
+          count-two (sameRow b i) count (n .two) i (omega (arith, lt-of-not-le p, n .mate .differ)) h (n .mate .same) (own-row b i)
 
   -- a least distance is no greater than that of any dowel to its nearest, below the cap
   pub least-near : {i a1 : ℕ} (cap j : ℕ) → LeastDistance a b count i a1 → j < count → sameRow b i j ≡ true → Near cap j → a1 ≤ nearest cap a b count j
   least-near {i} cap j l hj r n =
-      let s : sameRow b i (n .two) ≡ true = ap (λ f. f (n .two)) (row-same b i j r) ∙ n .other .same in
-      rw (n .attained) (l .least j (n .two) hj (n .two-within) (n .other .differ) r s)
+      let s : sameRow b i (n .two) ≡ true = ap (λ f. f (n .two)) (row-same b i j r) ∙ n .mate .same in
+      rw (n .attained) (l .least j (n .two) hj (n .two-within) (n .mate .differ) r s)
 
   -- and no less than that of one of them
   pub near-least : {i a1 : ℕ} (cap : ℕ) (l : LeastDistance a b count i a1) → nearest cap a b count (l .one) ≤ a1
@@ -124,9 +124,9 @@ module _ (a b : List ℤ) (count : ℕ) where
               two = n .two;
               one-within = o .within;
               two-within = n .two-within;
-              differ = n .other .differ;
+              differ = n .mate .differ;
               one-row = o .passes;
-              two-row = ap (λ f. f (n .two)) (row-same b i (o .one) (o .passes)) ∙ n .other .same;
+              two-row = ap (λ f. f (n .two)) (row-same b i (o .one) (o .passes)) ∙ n .mate .same;
               attained = o .least ∙ n .attained;
               least = closest-least cap i;
             },

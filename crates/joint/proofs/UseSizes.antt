@@ -3,14 +3,19 @@ use Prim.Native.Nat.{ℕ, _+_, _*_, _/_, _^_, _≤_, _<_}
 use native.Mathlib.Omega.{arith}
 use native.Mathlib.Nat.{mul-pos, mul-le-mul}
 use lib.Dec.{lit<}
+use Rattle.strength.specs.Working.{squareRootOf}
+use Rattle.strength.proofs.Greatest.{square-root-of}
 use Rattle.wide.proofs.Powers.{square-lt}
 use Rattle.group.specs.declared.member.Taken.{Taken}
 use Rattle.joint.specs.declared.demand.Demand.{Demand}
-use Rattle.joint.specs.Returned.{RowWithin, DemandWithin}
+use Rattle.joint.specs.Returned.{scaledForceOf, RowWithin, DemandWithin}
 
--- a root of 2^20 total
-pub root-small : {total r : ℕ} → total ≤ 2000000000000 → r * r ≤ 1048576 * total → r ≤ 1448154688
-root-small {total} {r} h e = omega (arith, square-lt r 1448154689 (omega arith))
+-- a force in 1024ths of a newton
+pub scaled-small : (total : ℕ) → total ≤ 2000000000000 → scaledForceOf total ≤ 1448154690
+unfolding scaledForceOf
+scaled-small total h =
+    let r = square-root-of (1048576 * total) (omega arith) in
+    omega (arith, square-lt (squareRootOf (1048576 * total)) 1448154689 (omega (arith, r .low)))
 
 -- a root of a number that fits, whatever the number is made of
 pub root-fits : (n r : ℕ) → r * r ≤ n → n < 2 ^ 64 → r + 1 < 2 ^ 64

@@ -10,10 +10,13 @@ const PARTS: u64 = 1024;
 
 const PARTS_SQUARED: u64 = 1048576;
 
+// kmod in hundredths is a multiple of this.
+const KMOD_STEP: u64 = 5;
+
 // 130 in 130 g/(T h v), for twice T, the capacity in thousandths of a newton and the use in ten-thousandths: 130 · 2 · 10^3 · 10^4.
 const BY_TOTAL: u64 = 2600000000;
 
-// The same in 130 c n/(e T h v), for the share in ten-thousandths and a fifth of h: 130 · 2 · 10^3 · 10^4 · 10^4 / 5.
+// The same in 130 c n/(e T h v), for the share in ten-thousandths and h in steps: 130 · 2 · 10^3 · 10^4 · 10^4 / 5.
 const BY_ROW: u64 = 5200000000000;
 
 // What the use depends on: the squared force, what it takes of the members, twice the number of shear planes that count, kmod in hundredths, the
@@ -42,7 +45,7 @@ fn ceiling_from(low: u64, a: u64, b: u64) -> u64
 // The force in parts of a newton, rounded up, from its square.
 fn scaled_force(total: u64) -> u64
     requires { ⌜ total ≤ 2000000000000 ⌝ }
-    ensures { λ r. ⌜ (r ≡ scaledForceOf total) × (r ≤ 1448154690) ⌝ }
+    ensures { λ r. ⌜ r ≡ scaledForceOf total ⌝ }
 {
     roots::whole_square_root(PARTS_SQUARED * total) + 1
 }
@@ -68,7 +71,7 @@ fn row_use(low: u64, d: Demand, m: Taken) -> u64
     ceiling_from(
         low,
         BY_ROW * m.along,
-        d.planes2 * (d.kmod / 5) * m.share * d.capacity,
+        d.planes2 * (d.kmod / KMOD_STEP) * m.share * d.capacity,
     )
 }
 

@@ -28,14 +28,14 @@ pub(crate) fn first_fault(v: Values) -> Fault
     ensures { λ r. ⌜ r ≡ drillFault v ⌝ }
 {
     let members = v.members;
-    let member1 = spaced(members.member1);
-    let member2 = spaced(members.member2);
     let dowel = v.dowel;
-    let d = dowel.diameter as u64;
     let loads = v.loads;
     let positions = v.positions;
     let x = positions.x;
     let y = positions.y;
     let n = positions.n;
+    let d = dowel.diameter as u64;
+    let member1 = spaced(members.member1);
+    let member2 = spaced(members.member2);
     verdict::spacing_verdict(member1, member2, d, loads.fx, loads.fy, x, y, n)
 }

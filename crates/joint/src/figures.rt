@@ -52,21 +52,13 @@ fn taken_of(members: Members, dowel: Dowel, loads: Loads, positions: Positions) 
     requires { ⌜ Given (dowel .diameter) (loads .fx) (loads .fy) (positions .n) × (1 ≤ positions .n) ⌝ }
     ensures { λ r. ⌜ r ≡ takenOf members dowel loads positions ⌝ }
 {
-    let first = drill::spaced(members.member1);
-    let second = drill::spaced(members.member2);
     let x = positions.x;
     let y = positions.y;
     let n = positions.n;
-    member::both_taken(
-        first,
-        second,
-        dowel.diameter as u64,
-        loads.fx,
-        loads.fy,
-        x,
-        y,
-        n,
-    )
+    let d = dowel.diameter as u64;
+    let first = drill::spaced(members.member1);
+    let second = drill::spaced(members.member2);
+    member::both_taken(first, second, d, loads.fx, loads.fy, x, y, n)
 }
 
 // A member in the shear plane.

@@ -1,5 +1,4 @@
 -- What it makes is the report, and the report meets the claim.
-use borrow.Author.Needs.{needs}
 use denote.Ref.{now}
 use mathlib.Core.Path.{_∙_, ap, sym, subst⁻¹}
 use Rattle.joint.specs.Claim.{Accepted}
@@ -32,4 +31,4 @@ returns-2 c =
     judged (c .answer .ensures ∙ ap answered (outcome-values _ _ (r .refusal .ensures) a) ∙ report-accepted _ a)
 
 pub judge-spec : {M : Type 1} → statement M
-judge-spec = tie.close (tie.spec (λ c κs. search needs) returns answer-requires returns-2)
+judge-spec = tie.close (tie.spec (λ c κs. tt) returns answer-requires returns-2)

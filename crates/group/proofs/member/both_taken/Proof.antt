@@ -35,4 +35,4 @@ returns-2 c =
     }
 
 pub both-taken-spec : {M : Type 1} → statement M
-both-taken-spec = tie.close (tie.spec (λ c κs. search needs) returns (λ c κs. search needs) (λ c κs. search needs) returns-2)
+both-taken-spec = tie.close (tie.spec (λ c κs. search needs) returns (λ c κs. search needs) (λ c κs. tt) returns-2)

@@ -34,4 +34,4 @@ returns c =
     }
 
 pub one-taken-spec : {M : Type 1} → statement M
-one-taken-spec = tie.close (tie.spec (λ c κs. search needs) (λ c κs. search needs) (λ c κs. search needs) returns)
+one-taken-spec = tie.close (tie.spec (λ c κs. search needs) (λ c κs. tt) (λ c κs. search needs) returns)

@@ -44,4 +44,4 @@ pub deciding-spec : {M : Type 1} → statement M
 deciding-spec =
     tie.close
     (tie.spec returns (λ c κs. search needs) (λ c κs. search needs) (λ c. search needs) (λ c. search needs)
-    (λ c κs. search needs) returns-2 returns-3)
+    (λ c κs. tt) returns-2 returns-3)

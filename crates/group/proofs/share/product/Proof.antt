@@ -6,7 +6,6 @@ use native.Mathlib.Omega.{arith}
 use lib.Dec.{lit≤}
 use Rattle.wide.proofs.Bits.{product-bits}
 use Rattle.group.proofs.Sizes.{number2, distance2, distance3, fifth}
-use borrow.Author.Needs.{needs}
 use Rattle.group.proofs.share.product.Statement.{statement}
 use Rattle.group.proofs.share.product.Tie as tie
 
@@ -34,4 +33,4 @@ returns c =
 pub product-spec : {M : Type 1} → statement M
 product-spec =
     tie.close
-    (tie.spec mul-square mul-product-u64 mul-product-u64-2 mul-product-u64-3 (λ c κs. search needs) returns)
+    (tie.spec mul-square mul-product-u64 mul-product-u64-2 mul-product-u64-3 (λ c κs. tt) returns)

@@ -4,15 +4,19 @@ use native.Mathlib.Omega.{arith}
 use mathlib.Core.Path.{_≡_, _∙_, ap}
 use Prim.Native.Nat.{ℕ, _*_, max}
 use Rattle.joint.specs.Returned.{totalUseOf, ceilingOf}
-use Rattle.joint.proofs.UseSizes.{planes-kmod, total-divisor, total-some}
+use Rattle.joint.proofs.UseSizes.{scaled-small, planes-kmod, total-divisor, total-some}
 use Rattle.joint.proofs.demand.total_use.Statement.{statement}
 use Rattle.joint.proofs.demand.total_use.Tie as tie
+
+mul-ceiling-from : tie.Need-mul-ceiling-from
+mul-ceiling-from c = omega (arith, c .scaled-force .ensures, scaled-small (c .before .args .d .total) (c .before .pre .total-high))
 
 ceiling-from-requires : tie.Need-ceiling-from-requires
 ceiling-from-requires c κs =
     let f : tie.After-scaled-force = search in
-    let k : tie.Start = search in
-    (total-some (k .args .d) (k .pre), omega (arith, total-divisor (k .args .d) (k .pre), f .scaled-force .ensures .1))
+    let d = f .before .args .d in
+    let w = f .before .pre in
+    (total-some d w, omega (arith, total-divisor d w, f .scaled-force .ensures, scaled-small (d .total) (w .total-high)))
 
 returns : tie.Need-returns
 unfolding totalUseOf
@@ -21,12 +25,12 @@ returns c =
     let d = f .before .args .d in
     let z : (n : ℕ) → max 0 n ≡ n = λ n. omega arith in
     c .ceiling-from .ensures ∙ z _
-    ∙ ap (λ (g : ℕ). ceilingOf (2600000000 * g) (1024 * (d .planes2 * d .kmod) * d .capacity)) (f .scaled-force .ensures .0)
+    ∙ ap (λ (g : ℕ). ceilingOf (2600000000 * g) (1024 * (d .planes2 * d .kmod) * d .capacity)) (f .scaled-force .ensures)
 
 pub total-use-spec : {M : Type 1} → statement M
 total-use-spec =
     tie.close
-    (tie.spec (λ c κs. search needs) (λ c. search needs)
+    (tie.spec (λ c κs. search needs) mul-ceiling-from
     (λ c. let k : tie.Start = search in omega (arith, planes-kmod (k .args .d) (k .pre)))
     (λ c. let k : tie.Start = search in omega (arith, planes-kmod (k .args .d) (k .pre)))
     (λ c. let k : tie.Start = search in omega (arith, total-divisor (k .args .d) (k .pre))) ceiling-from-requires returns)

@@ -25,7 +25,8 @@ demand-of-requires c κs =
       k .pre .given .most,
     )
 
-demand-is : (c : tie.After-demand-of) → let k : tie.Start = search in c .demand-of .result ≡ demandOf (k .args .v)
+demand-is : (c : tie.After-demand-of) →
+    c .demand-of .result ≡ demandOf (c .before .before .before .before .before .before .args .v)
 demand-is c =
     let t : tie.After-taken-of = search in
     let k : tie.Start = search in

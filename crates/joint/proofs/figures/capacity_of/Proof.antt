@@ -45,5 +45,5 @@ returns c = let l : tie.After-listed = search in c .capacity-thousandths .ensure
 pub capacity-of-spec : {M : Type 1} → statement M
 capacity-of-spec =
     tie.close
-    (tie.spec (λ c κs. search needs) (λ c κs. search needs) (λ c κs. search needs) (λ c κs. search needs) (λ c. search needs)
+    (tie.spec (λ c κs. search needs) (λ c κs. search needs) (λ c κs. tt) (λ c κs. tt) (λ c. search needs)
     (λ c. search needs) capacity-thousandths-requires returns)

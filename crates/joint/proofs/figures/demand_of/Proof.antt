@@ -53,5 +53,5 @@ returns c =
 pub demand-of-spec : {M : Type 1} → statement M
 demand-of-spec =
     tie.close
-    (tie.spec (λ c κs. search needs) capacity-of-requires (λ c κs. search needs) (λ c κs. search needs) (λ c κs. search needs)
+    (tie.spec (λ c κs. search needs) capacity-of-requires (λ c κs. search needs) (λ c κs. tt) (λ c κs. tt)
     returns)

@@ -16,4 +16,4 @@ returns c =
 pub plane-member-spec : {M : Type 1} → statement M
 plane-member-spec =
     tie.close
-    (tie.spec (λ c κs. search needs) (λ c κs. search needs) (λ c κs. search needs) mul-t8 (λ c. search needs) returns)
+    (tie.spec (λ c κs. tt) (λ c κs. tt) (λ c κs. tt) mul-t8 (λ c. search needs) returns)

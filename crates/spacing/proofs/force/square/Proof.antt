@@ -4,7 +4,6 @@ use native.Mathlib.Nat.{mul-le-mul}
 use lib.IntN.{natAbs}
 use mir.Facts.{toZ-ofZ}
 use native.Mathlib.Omega.{arith}
-use borrow.Author.Needs.{needs}
 use Rattle.spacing.proofs.force.square.Statement.{statement}
 use Rattle.spacing.proofs.force.square.Tie as tie
 
@@ -18,4 +17,4 @@ returns : tie.Need-returns
 returns c = ap₂ _*_ (e c) (e c)
 
 pub square-spec : {M : Type 1} → statement M
-square-spec = tie.close (tie.spec (λ c κs. search needs) mul-result returns)
+square-spec = tie.close (tie.spec (λ c κs. tt) mul-result returns)

@@ -38,5 +38,5 @@ returns-2 c =
 pub from-end-spec : {M : Type 1} → statement M
 from-end-spec =
     tie.close
-    (tie.spec (λ c. search needs) (λ c κs. search needs) returns (λ c κs. search needs) (λ c. search needs)
-    (λ c κs. search needs) least-part-requires (λ c. search needs) (λ c κs. search needs) returns-2)
+    (tie.spec (λ c. search needs) (λ c κs. tt) returns (λ c κs. search needs) (λ c. search needs)
+    (λ c κs. search needs) least-part-requires (λ c. search needs) (λ c κs. tt) returns-2)

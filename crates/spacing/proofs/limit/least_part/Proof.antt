@@ -24,4 +24,4 @@ returns-2 c =
     record { decides = rounded-up _ _ _ (s .force) (omega arith) (c .whole-square-root .ensures) }
 
 pub least-part-spec : {M : Type 1} → statement M
-least-part-spec = tie.close (tie.spec mul-whole mul-whole-2 returns (λ c. search needs) (λ c. search needs) (λ c κs. search needs) add-result returns-2)
+least-part-spec = tie.close (tie.spec mul-whole mul-whole-2 returns (λ c. search needs) (λ c. search needs) (λ c κs. tt) add-result returns-2)

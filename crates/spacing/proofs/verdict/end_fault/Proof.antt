@@ -30,5 +30,5 @@ returns c =
 pub end-fault-spec : {M : Type 1} → statement M
 end-fault-spec =
     tie.close
-    (tie.spec (λ c κs. search needs) (λ c κs. search needs) (λ c κs. search needs) (λ c κs. search needs)
+    (tie.spec (λ c κs. tt) (λ c κs. search needs) (λ c κs. tt) (λ c κs. search needs)
     (λ c κs. let k : tie.Start = search in k .pre .most) (λ c κs. let k : tie.Start = search in k .pre .most) returns)

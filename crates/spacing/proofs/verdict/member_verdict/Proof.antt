@@ -37,4 +37,4 @@ returns-3 c =
 pub member-verdict-spec : {M : Type 1} → statement M
 member-verdict-spec =
     tie.close
-    (tie.spec (λ c κs. search needs) (λ c κs. search needs) returns (λ c κs. search needs) returns-2 (λ c κs. search needs) returns-3)
+    (tie.spec (λ c κs. tt) (λ c κs. search needs) returns (λ c κs. search needs) returns-2 (λ c κs. search needs) returns-3)

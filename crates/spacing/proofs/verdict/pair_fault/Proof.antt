@@ -43,5 +43,5 @@ returns-2 c =
 pub pair-fault-spec : {M : Type 1} → statement M
 pair-fault-spec =
     tie.close
-    (tie.spec (λ c κs. search needs) (λ c. search needs) (λ c κs. search needs) (λ c κs. search needs) returns
+    (tie.spec (λ c κs. search needs) (λ c. search needs) (λ c κs. search needs) (λ c κs. tt) returns
     (λ c κs. search needs) (λ c. search needs) (λ c. search needs) add-t14 cast-t15 returns-2)
