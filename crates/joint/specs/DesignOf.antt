@@ -62,8 +62,8 @@ abbrev pub countedPlanes : ℕ → ℕ → Fraction
 countedPlanes n p = cond (eqb n 1) (p over 2) (whole (n * p))
 
 -- a member's force along the grain, and its rows
-abbrev pub partOf : Values → Member → Carrier
-partOf v m = record {
+abbrev pub carrierOf : Values → Member → Carrier
+carrierOf v m = record {
   along = forceAlong (v .loads) m;
   row =
       IsRow (along (m .grain) (v .positions .x) (v .positions .y)) (across (m .grain) (v .positions .x) (v .positions .y))
@@ -77,5 +77,5 @@ designOf v = record {
   squaredForce = squaredForce (v .loads .fx) (v .loads .fy);
   counted = countedPlanes (v .positions .n) (v .members .planes);
   kmod = kmodIn (v .loads);
-  members = partOf v (v .members .member1) ∷ partOf v (v .members .member2) ∷ [];
+  members = carrierOf v (v .members .member1) ∷ carrierOf v (v .members .member2) ∷ [];
 }
