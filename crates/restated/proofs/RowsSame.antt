@@ -47,7 +47,7 @@ closest a b count i = working.leastTo 200000 (sameRow b i) (working.nearest 2000
 row-same : (a b : List ℤ) (count i : ℕ) → old.rowDistance a b count i ≡ closest a b count i
 row-same a b count i =
     least-same (sameRow b i) (old.nearest a b count) (working.nearest 200000 a b count) count
-    (λ j. least-same (working.other b j) (distance a j) (distance a j) count (λ k. refl))
+    (λ j. least-same (working.mate b j) (distance a j) (distance a j) count (λ k. refl))
 
 module _ (a b : List ℤ) (count : ℕ) (limits : (j : ℕ) → j < count → natAbs (place a j) ≤ 100000) where
   -- where a row has several dowels, old's a1 is its least distance
@@ -71,7 +71,7 @@ module _ (a b : List ℤ) (count : ℕ) (limits : (j : ℕ) → j < count → na
       above : a1 ≤ closest a b count i
       above =
           least-from 200000 (sameRow b i) (working.nearest 200000 a b count) count a1 small (λ j hj r.
-          least-from 200000 (working.other b j) (distance a j) count a1 small (λ k hk o.
+          least-from 200000 (working.mate b j) (distance a j) count a1 small (λ k hk o.
           let t = mate-of b j k o in
           l .least j k hj hk (t .differ) r (row-of-row i j k r (t .same))))
         where
