@@ -15,7 +15,7 @@ use Rattle.spacing.specs.Spacing.{place, distance, square, squaredForce, alongE
 use Rattle.spacing.specs.Says.{NoPair}
 use Rattle.spacing.proofs.Integers.{distance-turned}
 use Rattle.group.specs.Rows.{sameRow, rowNumber}
-use Rattle.group.specs.Share.{units, rowPasses, memberShare, other, nearest}
+use Rattle.group.specs.Share.{units, rowPasses, memberShare, mate, nearest}
 use Rattle.group.proofs.Counting.{count-bound, least-from}
 use Rattle.group.proofs.Shares.{all-true, both-true, greatest-from}
 use Rattle.group.proofs.RowLaws.{mate-of}
@@ -53,7 +53,7 @@ module _ (v : Frame) (d : ℕ) (a b : List ℤ) (count : ℕ) (some : 1 ≤ d) (
 
   near-from : (i : ℕ) → i < count → 30 * d ≤ nearest 200000 a b count i
   near-from i h =
-      least-from 200000 (other b i) (distance a i) count (30 * d) (omega arith) (λ k hk o.
+      least-from 200000 (mate b i) (distance a i) count (30 * d) (omega arith) (λ k hk o.
       let t = mate-of b i k o in
       either i k h hk (t .differ) (eqb-true _ _ (t .same)))
 

@@ -14,7 +14,7 @@ use Rattle.spacing.specs.Spacing.{place, distance}
 use Rattle.spacing.proofs.Integers.{same-place, no-distance}
 use Rattle.group.specs.Rows.{sameRow, countTo, rowNumber, LeastDistance}
 use Rattle.group.specs.declared.member.Taken.{Taken}
-use Rattle.group.specs.Share.{leastTo, other, nearest, TakenFrom}
+use Rattle.group.specs.Share.{leastTo, mate, nearest, TakenFrom}
 use Rattle.group.proofs.Counting.{Another, another, count-some, count-two, least-below, least-attained}
 use Rattle.group.proofs.Shares.{both-true}
 
@@ -34,20 +34,20 @@ pub number-same : (b : List ℤ) (count i j : ℕ) → sameRow b i j ≡ true �
 number-same b count i j h = ap (λ t. countTo t count) (row-same b i j h)
 
 -- another dowel of the row
-other-is : (b : List ℤ) (j k : ℕ) → sameRow b j k ≡ true → (j ≡ k → ⊥) → other b j k ≡ true
-other-is b j k s h = let n : not (eqb j k) ≡ true = rw (ne-eqb j k h) in rw (s, n)
+mate-is : (b : List ℤ) (j k : ℕ) → sameRow b j k ≡ true → (j ≡ k → ⊥) → mate b j k ≡ true
+mate-is b j k s h = let n : not (eqb j k) ≡ true = rw (ne-eqb j k h) in rw (s, n)
 
-other-differs : (j k : ℕ) → not (eqb j k) ≡ true → j ≡ k → ⊥
-other-differs j k h e = true≢false (sym (eq-eqb j k e) ∙ not-true (eqb j k) h)
+mate-differs : (j k : ℕ) → not (eqb j k) ≡ true → j ≡ k → ⊥
+mate-differs j k h e = true≢false (sym (eq-eqb j k e) ∙ not-true (eqb j k) h)
 
 pub record Mate (b : List ℤ) (i j : ℕ) : Type 0 where
   pub same : sameRow b i j ≡ true
   pub differ : i ≡ j → ⊥
 
-pub mate-of : (b : List ℤ) (i j : ℕ) → other b i j ≡ true → Mate b i j
+pub mate-of : (b : List ℤ) (i j : ℕ) → mate b i j ≡ true → Mate b i j
 mate-of b i j h =
     let p = both-true (sameRow b i j) (not (eqb i j)) h in
-    record { same = p .0; differ = other-differs i j (p .1) }
+    record { same = p .0; differ = mate-differs i j (p .1) }
 
 -- a member takes what another with the same grain takes
 pub same-grain :
@@ -62,7 +62,7 @@ module _ (a b : List ℤ) (count : ℕ) where
       nearest cap a b count p ≤ distance a p q
   nearest-least cap i p q hq n rp rq =
       let s : sameRow b p q ≡ true = sym (ap (λ f. f q) (row-same b i p rp)) ∙ rq in
-      least-below cap (other b p) (distance a p) count q hq (other-is b p q s n)
+      least-below cap (mate b p) (distance a p) count q hq (mate-is b p q s n)
 
   -- a dowel that is nearer to another than the cap is not alone, and no two dowels of its row lie that far
   pub record Near (cap i : ℕ) : Type 0 where
@@ -73,7 +73,7 @@ module _ (a b : List ℤ) (count : ℕ) where
 
   pub near : (cap i : ℕ) → nearest cap a b count i < cap → Near cap i
   near cap i h =
-      let o = least-attained cap (other b i) (distance a i) count h in
+      let o = least-attained cap (mate b i) (distance a i) count h in
       record { two = o .one; two-within = o .within; mate = mate-of b i (o .one) (o .passes); attained = o .least }
 
   pub near-several : (cap i : ℕ) → i < count → Near cap i → 1 < rowNumber b count i

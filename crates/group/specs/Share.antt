@@ -19,12 +19,13 @@ unfoldable pub leastTo : ℕ → (ℕ → Bool) → (ℕ → ℕ) → ℕ → �
 leastTo cap test f zero = cap
 leastTo cap test f (suc k) = cond (test k) (min (leastTo cap test f k) (f k)) (leastTo cap test f k)
 
--- the distance along from dowel i to the nearest other dowel of its row
-abbrev pub other : List ℤ → ℕ → ℕ → Bool
-other b i j = sameRow b i j && not (eqb i j)
+-- dowel j is another one of dowel i's row
+abbrev pub mate : List ℤ → ℕ → ℕ → Bool
+mate b i j = sameRow b i j && not (eqb i j)
 
+-- the distance along from dowel i to the nearest of them
 abbrev pub nearest : ℕ → List ℤ → List ℤ → ℕ → ℕ → ℕ
-nearest cap a b count i = leastTo cap (other b i) (distance a i) count
+nearest cap a b count i = leastTo cap (mate b i) (distance a i) count
 
 -- at this distance a row passes every share, so no greater one is told apart from it
 abbrev pub farthest : ℕ

@@ -10,14 +10,14 @@ use mir.Val.{SFits}
 use mir.Facts.{toZ-ofZ}
 use Rattle.spacing.specs.Spacing.{place, distance}
 use Rattle.group.specs.Rows.{sameRow, countTo}
-use Rattle.group.specs.Share.{other, leastTo}
+use Rattle.group.specs.Share.{mate, leastTo}
 use Rattle.group.proofs.Counting.{count-none, least-none, count-bound, count-on, least-on}
 use Rattle.group.proofs.rows.row_of.Statement.{statement}
 use Rattle.group.proofs.rows.row_of.Tie as tie
 
 abbrev Inv-loop : tie.InvT-loop
 Inv-loop a b count i number₀ least₀ j₀ number least j =
-    (j ≤ count) × (number ≡ countTo (sameRow b i) j) × (least ≡ leastTo 200000 (other b i) (distance a i) j)
+    (j ≤ count) × (number ≡ countTo (sameRow b i) j) × (least ≡ leastTo 200000 (mate b i) (distance a i) j)
 
 abbrev μ-loop : tie.MeasureT-loop
 μ-loop a b count i number₀ least₀ j₀ number least j = count - j

@@ -7,7 +7,7 @@ use native.Mathlib.Omega.{arith}
 use lib.Dec.{lit≤}
 use Rattle.spacing.specs.Spacing.{distance}
 use Rattle.group.specs.Rows.{sameRow}
-use Rattle.group.specs.Share.{RowHolds, other, rowPasses, allTo, dowelsPass, memberShare}
+use Rattle.group.specs.Share.{RowHolds, mate, rowPasses, allTo, dowelsPass, memberShare}
 use Rattle.group.proofs.Counting.{count-bound, least-bound}
 use Rattle.group.proofs.RowLaws.{row-some}
 use Rattle.group.proofs.Shares.{far-passes, all-on, greatest-same}
@@ -42,7 +42,7 @@ deciding-requires c κs =
       record {
         some = rw (row .number) (row-some (now (v .b)) (v .count) i (omega arith));
         most = rw (row .number) (omega (arith, k .pre .most));
-        far = rw (row .nearest) (least-bound 200000 (other (now (v .b)) i) (distance (now (v .a)) i) (v .count));
+        far = rw (row .nearest) (least-bound 200000 (mate (now (v .b)) i) (distance (now (v .a)) i) (v .count));
       },
     )
 
