@@ -6,6 +6,7 @@ within its bracket is reported, and are held to the engineer's brackets.
 """
 import math
 import pathlib
+import struct
 import sys
 
 HERE = pathlib.Path(__file__).resolve().parent
@@ -31,7 +32,6 @@ def root(n, q, k):
 
 def figures(record):
     """U, C and E of an accepted record."""
-    import struct
     parts = {}
     for k in range(4):
         offset, length = struct.unpack_from("<HH", record, 4 + 4 * k)
@@ -95,6 +95,7 @@ def main():
     b = records["joint-b"]
     records["no-bytes"] = b""
     records["twenty-bytes"] = b[:20]
+    records["most-bytes"] = b[:18] + struct.pack("<H", 4096 - 99) + b[20:] + bytes(4096 - len(b))    # its last part fills it
     records["too-long"] = b + bytes(4097 - len(b))
     (HERE / "data").mkdir(exist_ok=True)
     for name, record in records.items():

@@ -1,4 +1,4 @@
-/* judge FILE: prints the line for the record in a file. */
+/* judge FILE: prints the line for the record in a file. Ends with 2 where the file cannot be read or the line not written. */
 #include <inttypes.h>
 #include <stdio.h>
 
@@ -21,18 +21,20 @@ int main(int argc, char **argv)
         fprintf(stderr, "%s: cannot be read\n", argv[1]);
         return 2;
     }
-    if (length == sizeof record) { /* as the program does: more than 4,096 bytes are refusal 4 */
+    if (length == sizeof record) /* as the program does: more than 4,096 bytes are refusal 4 */
         puts("refused 4 0 0 0");
-        return 0;
-    }
-    if (negwishal_judge(record, length, r, NEGWISHAL_FIELDS) != NEGWISHAL_JUDGED)
+    else if (negwishal_judge(record, length, r, NEGWISHAL_FIELDS) != NEGWISHAL_JUDGED)
         return 2;
-    if (r[NEGWISHAL_VERDICT] == NEGWISHAL_REFUSED)
+    else if (r[NEGWISHAL_VERDICT] == NEGWISHAL_REFUSED)
         printf("refused %" PRIu64 " %" PRIu64 " %" PRIu64 " %" PRIu64 "\n",
                r[NEGWISHAL_NUMBER], r[NEGWISHAL_MEMBER], r[NEGWISHAL_FIRST], r[NEGWISHAL_SECOND]);
     else
         printf("%s %" PRIu64 " %" PRIu64 " %" PRIu64 "\n",
                r[NEGWISHAL_VERDICT] == NEGWISHAL_FITS ? "fits" : "overloaded",
                r[NEGWISHAL_USE], r[NEGWISHAL_CAPACITY], r[NEGWISHAL_SHARE]);
+    if (fflush(stdout) != 0 || ferror(stdout)) {
+        perror("standard output");
+        return 2;
+    }
     return 0;
 }

@@ -29,7 +29,7 @@ use Rattle.group.specs.declared.member.Taken.{Taken}
 use Rattle.joint.specs.declared.demand.Demand.{Demand}
 use Rattle.joint.specs.Refusal.{drillFault, spaced}
 use Rattle.joint.specs.Design.{Design}
-use Rattle.joint.specs.DesignOf.{countedPlanes, partOf, designOf}
+use Rattle.joint.specs.DesignOf.{countedPlanes, carrierOf, designOf}
 use Rattle.joint.specs.Use.{Above0, RowsEnough, UseBracket, ShareBracket, Answered}
 use Rattle.joint.specs.Returned.{memberTaken, twicePlanes, demandOf, useOf, rowUseOf, RowWithin, DemandWithin, answered, Passed}
 use Rattle.joint.proofs.EnoughLaws.{Sound}
@@ -79,7 +79,7 @@ module _ (v : Values) (p : Passed v) where
   given : RowsGiven (v .dowel .diameter) (v .positions .n)
   given = record { thick = p .fields .diameter-high; some = p .fields .dowels-low; most = p .fields .dowels-high }
 
-  bracket : (m : Member) → MemberBracket (partOf v m .row) (j .diameter) (of m .share)
+  bracket : (m : Member) → MemberBracket (carrierOf v m .row) (j .diameter) (of m .share)
   bracket m = share-bracket (v .dowel .diameter) _ _ (v .positions .n) given
 
   abbrev ApartIn : Which → Member → Type 0
@@ -126,13 +126,13 @@ module _ (v : Values) (p : Passed v) where
   twice : 2 * j .counted .num ≡ d .planes2 * j .counted .den
   twice = counted-twice (v .positions .n) (v .members .planes)
 
-  rows : (m : Member) → RowWithin (of m) → rowUseOf d (of m) ≤ useOf d → RowsEnough j (useOf d over 10000) (partOf v m)
+  rows : (m : Member) → RowWithin (of m) → rowUseOf d (of m) ≤ useOf d → RowsEnough j (useOf d over 10000) (carrierOf v m)
   rows m r h n a1 is e pe b =
       let l = not-above-not-below (j .diameter) n a1 (shareOver (of m .share) n) e (sound .diameter) (bracket m .every n a1 is) b in
       rows-enough d within R drops (capacity-low (j .plane) plane) above (j .counted) twice (of m) r h n e (omega (arith, l))
 
   -- a v that is enough passes in some row at 2 more than the share, which is above the effective number
-  passes : (u : Fraction) → (m : Member) → RowsEnough j u (partOf v m) → RowPasses R (j .counted) (j .kmod) u (of m)
+  passes : (u : Fraction) → (m : Member) → RowsEnough j u (carrierOf v m) → RowPasses R (j .counted) (j .kmod) u (of m)
   passes u m h =
       let s = bracket m .some in
       let e = shareOver (of m .share + 2) (s .n) in
@@ -162,10 +162,10 @@ module _ (v : Values) (p : Passed v) where
   shared : ShareBracket j (min (d .member1 .share) (d .member2 .share))
   shared = go (decLe (d .member1 .share) (d .member2 .share))
     where
-      first : MemberBracket (partOf v (v .members .member1) .row) (j .diameter) (d .member1 .share)
+      first : MemberBracket (carrierOf v (v .members .member1) .row) (j .diameter) (d .member1 .share)
       first = bracket (v .members .member1)
 
-      second : MemberBracket (partOf v (v .members .member2) .row) (j .diameter) (d .member2 .share)
+      second : MemberBracket (carrierOf v (v .members .member2) .row) (j .diameter) (d .member2 .share)
       second = bracket (v .members .member2)
 
       go : Dec (d .member1 .share ≤ d .member2 .share) → ShareBracket j (min (d .member1 .share) (d .member2 .share))

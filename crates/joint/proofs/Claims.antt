@@ -1,22 +1,21 @@
 -- The report that is made meets the top claim, for every sequence of bytes.
 use Prim.Native.Nat.{ℕ, _≤_, _<_}
 use mathlib.Core.Path.{_≡_, refl, sym, ap, _∙_, subst⁻¹}
-use mathlib.Core.Bool.{Bool, true, false, cond, not, false≢true}
+use mathlib.Core.Bool.{Bool, true, false, cond, not}
 use mathlib.Core.List.{List}
 use borrow.Author.Tests.{eq-eqb, ne-eqb, eqb-true, eqb-false, le-leb, lt-leb}
 use native.Mathlib.Decide.{ℕ-discrete}
 use lib.Dec.{eqb}
-use lib.ListN.{take}
 use Rattle.spacing.specs.declared.verdict.Fault.{Fault}
 use Rattle.spacing.specs.Verdict.{fault}
 use Rattle.joint.specs.declared.report.Report.{Report}
-use Rattle.joint.specs.declared.report.Verdict.the-variants.{Fits, Overloaded, Refused}
+use Rattle.joint.specs.declared.report.Verdict.the-variants.{Fits, Overloaded}
 use Rattle.joint.specs.declared.Outcome.{Outcome}
 use Rattle.joint.specs.Layout.{valuesOf}
 use Rattle.joint.specs.Refusal.{refusalOf, refusalNumber, drillFault, fieldsWithin, noForce, outcomeOf, outcome, zeroValues}
-use Rattle.joint.specs.Claim.{Accepted, Judged, Reported, InputJudged}
+use Rattle.joint.specs.Claim.{Accepted, Judged, Reported}
 use Rattle.joint.specs.Use.{verdictOf}
-use Rattle.joint.specs.Returned.{answered, unanswered, reportOf, inputReport, Passed}
+use Rattle.joint.specs.Returned.{answered, unanswered, reportOf, Passed}
 use Rattle.joint.proofs.Order.{unnumbered}
 use Rattle.joint.proofs.Faults.{given, outcome-accepted}
 use Rattle.joint.proofs.Accepted.{fields-hold}
@@ -119,28 +118,3 @@ pub outcome-refused :
 unfolding outcomeOf outcome
 outcome-refused s o e =
     ap (λ (r : Outcome). unanswered (fault (r .number) (r .member) (r .first) (r .second))) e
-
--- the program's rule
-abbrev pub tooLong : Report
-tooLong = record { verdict = Refused; number = 4; member = 0; first = 0; second = 0; usage = 0; capacity = 0; share = 0 }
-
-pub input-judged : (buffer : List ℕ) (count : ℕ) (more : Bool) (r : Report) → more ≡ false → r ≡ reportOf (take count buffer)
-    → InputJudged buffer count more r × (r ≡ inputReport buffer count more)
-unfolding inputReport
-input-judged buffer count true r m e = absurd (false≢true (sym m))
-input-judged buffer count false r m e = let j = judged e in (j .claim, j .is)
-
-pub input-long : (buffer : List ℕ) (count : ℕ) (more : Bool) → more ≡ true
-    → InputJudged buffer count more tooLong × (tooLong ≡ inputReport buffer count more)
-unfolding inputReport unanswered
-input-long buffer count false m = absurd (false≢true m)
-input-long buffer count true m = (
-  record {
-    number = refl;
-    member = refl;
-    first = refl;
-    second = refl;
-    figures = record { capacity = refl; share = refl; usage = refl; verdict = refl };
-  },
-  refl,
-)

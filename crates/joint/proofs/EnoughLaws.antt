@@ -11,10 +11,10 @@ use Rattle.strength.proofs.Falling.{falls}
 use Rattle.wide.proofs.Powers.{square-le, square-is}
 use Rattle.group.specs.Rows.{NotAbove}
 use Rattle.group.proofs.Effective.{not-above-not-below}
-use Rattle.joint.specs.Design.{Part, Design, Each}
+use Rattle.joint.specs.Design.{Carrier, Design, Each}
 use Rattle.joint.specs.Use.{Above0, planeForce, rowForce, RowsEnough, Enough, UseBracket}
 
-pub each-map : (P Q : Part → Type 0) → ((m : Part) → P m → Q m) → (ms : List Part) → Each P ms → Each Q ms
+pub each-map : (P Q : Carrier → Type 0) → ((m : Carrier) → P m → Q m) → (ms : List Carrier) → Each P ms → Each Q ms
 each-map P Q f [] e = tt
 each-map P Q f (m ∷ ms) e = (f m (e .0), each-map P Q f ms (e .1))
 
@@ -83,7 +83,7 @@ module _ (j : Design) (s : Sound j) where
     rows = each-map (RowsEnough j u) (RowsEnough j v) rows (j .members) (e .rows);
   }
     where
-      rows : (m : Part) → RowsEnough j u m → RowsEnough j v m
+      rows : (m : Carrier) → RowsEnough j u m → RowsEnough j v m
       rows m r n a1 is f pf b =
           drops _ _ (row-proper (m .along) n f u pf (e .above0)) (row-falls (m .along) n f T h u v l) (r n a1 is f pf b)
 
@@ -94,7 +94,7 @@ module _ (j : Design) (s : Sound j) where
     pub not-above : NotAbove (j .diameter) n a1 e
     pub passes : P (rowForce c n e T h v)
 
-  abbrev pub RowsBy : Fraction → Part → Type 0
+  abbrev pub RowsBy : Fraction → Carrier → Type 0
   RowsBy v m = (n a1 : ℕ) → m .row n a1 → RowBy v (m .along) n a1
 
   pub enough-by :
@@ -107,7 +107,7 @@ module _ (j : Design) (s : Sound j) where
     rows = each-map (RowsBy v) (RowsEnough j v) rows (j .members) by;
   }
     where
-      rows : (m : Part) → RowsBy v m → RowsEnough j v m
+      rows : (m : Carrier) → RowsBy v m → RowsEnough j v m
       rows m r n a1 is f pf b =
           let q = r n a1 is in
           let l = not-above-not-below (j .diameter) n a1 (q .e) f (s .diameter) (q .not-above) b in

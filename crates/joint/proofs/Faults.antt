@@ -14,21 +14,22 @@ use Rattle.spacing.specs.Verdict.{fault, orElse, pairFault, endFault, edgeFault
 use Rattle.joint.specs.Layout.{valuesOf}
 use Rattle.joint.specs.Order.{tests, position}
 use Rattle.numbers.specs.Numbers.{force}
-use Rattle.joint.specs.Refusal.{between, dowelWithin, positionsWithin, loadsWithin, membersWithin, fieldsWithin, coordinates, noForce, fault10, fault11, fault12, isFault, scriptTests, designerTests, drillTests, firstFrom, refusalNumber, drillFault, refusalOf, frame, alongs, acrosses, refusedBy, outcome, outcomeOf}
-use Rattle.joint.specs.declared.Dowel.{Dowel}
-use Rattle.joint.specs.declared.Loads.{Loads}
-use Rattle.joint.specs.declared.Positions.{Positions}
+use Rattle.joint.specs.Refusal.{loadsWithin, fieldsWithin, noForce, scriptTests, designerTests, drillTests, firstHolding}
+use Rattle.joint.specs.Refusal.{fault10, fault11, fault12, isFault, frame, alongs, acrosses, drillFault}
+use Rattle.joint.specs.Refusal.{refusalNumber, refusalOf, refusedBy, outcome, outcomeOf}
 use Rattle.joint.specs.declared.Values.{Values}
-use Rattle.joint.specs.Stage.{stage, stageNumber}
+use Rattle.joint.specs.Stage.{partsOf, layout, layoutNumber, stage, stageNumber, valueTests}
 use Rattle.joint.specs.declared.Stage.{Stage}
-use Rattle.joint.specs.declared.Stage.the-variants.{Refused}
-use Rattle.joint.proofs.Stages.{first-zero, first-kept, stage-refused}
+use Rattle.joint.specs.declared.Stage.the-variants.{Passed, Refused}
+use Rattle.joint.specs.declared.layout.Parts.{Parts}
+use Rattle.joint.specs.declared.layout.Layout.{Layout}
+use Rattle.joint.specs.declared.layout.Layout.the-variants.{Laid, Refused as LayoutRefused}
+use Rattle.joint.proofs.Accepted.{fields-hold}
+use Rattle.joint.proofs.Holding.{none-holds, first-zero, first-kept}
+use Rattle.joint.proofs.Stages.{layout-number, laid-number, layout-refused, stage-number, stage-passed, stage-refused}
 use Rattle.joint.proofs.Tests.{first-of, second-of}
 
 -- ---- what 7 and 9 leave
-at-most : (low high n : ℕ) → between low high n ≡ true → n ≤ high
-at-most low high n h = leb-true n high (second-of (leb low n) (leb n high) h)
-
 small-force : (z : ℤ) → force z ≡ true → natAbs z ≤ 1000000
 unfolding force
 small-force (pos n) h = leb-true n 1000000 h
@@ -39,69 +40,36 @@ some-force zero zero h = let z : _≡_ {A = ℕ} 0 1 = cc in absurd (omega arith
 some-force zero (suc b) h = omega arith
 some-force (suc a) b h = omega arith
 
-thick : (w : Dowel) → dowelWithin w ≡ true → w .diameter ≤ 30
-unfolding dowelWithin
-thick w h = at-most 6 30 (w .diameter) (first-of (between 6 30 (w .diameter)) _ h)
-
-most : (p : Positions) → positionsWithin p ≡ true → p .n ≤ 64
-unfolding positionsWithin
-most p h =
-    at-most 1 64 (p .n)
-    (first-of (between 1 64 (p .n)) _ (first-of (between 1 64 (p .n) && coordinates (p .x) (p .n)) _ h))
-
-small-x : (l : Loads) → loadsWithin l ≡ true → natAbs (l .fx) ≤ 1000000
-unfolding loadsWithin
-small-x l h =
-    let a = between 1 3 (l .«service_class») in
-    let b = between 1 5 (l .duration) in
-    small-force (l .fx) (second-of (a && b) _ (first-of (a && b && force (l .fx)) _ h))
-
-small-y : (l : Loads) → loadsWithin l ≡ true → natAbs (l .fy) ≤ 1000000
-unfolding loadsWithin
-small-y l h =
-    let a = between 1 3 (l .«service_class») in
-    let b = between 1 5 (l .duration) in
-    small-force (l .fy) (second-of (a && b && force (l .fx)) _ h)
-
-some : (l : Loads) → noForce l ≡ false → 0 < natAbs (l .fx) + natAbs (l .fy)
-unfolding noForce
-some l h = some-force (natAbs (l .fx)) (natAbs (l .fy)) h
-
-pub given : (v : Values) → not (fieldsWithin v) ≡ false → noForce (v .loads) ≡ false → Given (v .dowel .diameter) (v .loads .fx) (v .loads .fy) (v .positions .n)
-unfolding fieldsWithin
+pub given : (v : Values) → not (fieldsWithin v) ≡ false → noForce (v .loads) ≡ false
+    → Given (v .dowel .diameter) (v .loads .fx) (v .loads .fy) (v .positions .n)
+unfolding fieldsWithin loadsWithin noForce
 given v h g =
-    let m = membersWithin (v .members) in
-    let w = dowelWithin (v .dowel) in
-    let p = positionsWithin (v .positions) in
-    let all = not-false _ h in
-    let l : loadsWithin (v .loads) ≡ true = second-of (m && w && p) _ all in
-    record {
-      force =
-          record {
-            thick = thick (v .dowel) (second-of m _ (first-of (m && w) _ (first-of (m && w && p) _ all)));
-            x-small = small-x (v .loads) l;
-            y-small = small-y (v .loads) l;
-            some = some (v .loads) g;
-          };
-      most = most (v .positions) (second-of (m && w) _ (first-of (m && w && p) _ all));
-    }
+    let t = not-false (fieldsWithin v) h in
+    let f = fields-hold v h in
+    let s = some-force (natAbs (v .loads .fx)) (natAbs (v .loads .fy)) g in
+    search (small-force, first-of, second-of)
 
--- ---- faults in a row
-chain : List Fault → Fault
-chain [] = fault 0 0 0 0
-chain (f ∷ fs) = orElse f (chain fs)
+pub drill-given : {r : Stage} (v : Values) → r ≡ stage (firstHolding 7 (valueTests v)) → r ≡ Passed
+    → Given (v .dowel .diameter) (v .loads .fx) (v .loads .fy) (v .positions .n)
+drill-given v e h = let n = none-holds 6 (valueTests v) (stage-passed _ e h) in given v (n .none 0) (n .none 2)
+
+-- ---- the first of faults in a row
+inRow : List Fault → Fault
+inRow [] = fault 0 0 0 0
+inRow (f ∷ fs) = orElse f (inRow fs)
 
 -- each fault that is one stands at its place in the order
 Placed : ℕ → List Fault → Type 0
 Placed k [] = Unit
 Placed k (f ∷ fs) = (isFault f ≡ true → position f ≡ k) × Placed (suc k) fs
 
-chain-position : (k : ℕ) (fs : List Fault) → Placed (suc k) fs → position (chain fs) ≡ firstFrom (suc k) (map isFault fs)
-unfolding chain Placed firstFrom
-chain-position k [] p = refl
-chain-position k (f ∷ fs) p = of (eqb (f .number) 0) refl (chain-position (suc k) fs (p .1)) (p .0)
+row-position : (k : ℕ) (fs : List Fault) → Placed (suc k) fs → position (inRow fs) ≡ firstHolding (suc k) (map isFault fs)
+unfolding inRow Placed firstHolding
+row-position k [] p = refl
+row-position k (f ∷ fs) p = of (eqb (f .number) 0) refl (row-position (suc k) fs (p .1)) (p .0)
   where
-    of : (b : Bool) → eqb (f .number) 0 ≡ b → position (chain fs) ≡ firstFrom (suc (suc k)) (map isFault fs) → (isFault f ≡ true → position f ≡ suc k) → position (chain (f ∷ fs)) ≡ firstFrom (suc k) (map isFault (f ∷ fs))
+    of : (b : Bool) → eqb (f .number) 0 ≡ b → position (inRow fs) ≡ firstHolding (suc (suc k)) (map isFault fs)
+        → (isFault f ≡ true → position f ≡ suc k) → position (inRow (f ∷ fs)) ≡ firstHolding (suc k) (map isFault (f ∷ fs))
     of true e ih q = simp e ih
     of false e ih q = simp e (q (simp e))
 
@@ -132,13 +100,13 @@ last-clean f q = of (eqb (f .number) 0) refl
     of true e = simp e (sym (q (eqb-true _ _ e)))
     of false e = simp e
 
-chain-clean : (fs : List Fault) → Clean (chain fs)
-unfolding chain Clean
-chain-clean [] h = refl
-chain-clean (f ∷ fs) h = or-clean f (chain fs) (chain-clean fs) h
+row-clean : (fs : List Fault) → Clean (inRow fs)
+unfolding inRow Clean
+row-clean [] h = refl
+row-clean (f ∷ fs) h = or-clean f (inRow fs) (row-clean fs) h
 
-six : (a b c d e f : Fault) → Clean f → orElse (orElse a (orElse b c)) (orElse d (orElse e f)) ≡ chain (a ∷ b ∷ c ∷ d ∷ e ∷ f ∷ [])
-unfolding chain
+six : (a b c d e f : Fault) → Clean f → orElse (orElse a (orElse b c)) (orElse d (orElse e f)) ≡ inRow (a ∷ b ∷ c ∷ d ∷ e ∷ f ∷ [])
+unfolding inRow
 six a b c d e f q =
     or-assoc a (orElse b c) (orElse d (orElse e f))
     ∙ ap (λ (z : Fault). orElse a z) (or-assoc b c (orElse d (orElse e f)))
@@ -150,7 +118,8 @@ unfolding Clean
 one-clean true k m i j h = absurd (omega arith)
 one-clean false k m i j h = refl
 
-one-placed : (t : Bool) (k m i j p : ℕ) → cond (eqb m 2) (k + 3) k ≡ p → isFault (cond t (fault k m i j) (fault 0 0 0 0)) ≡ true → position (cond t (fault k m i j) (fault 0 0 0 0)) ≡ p
+one-placed : (t : Bool) (k m i j p : ℕ) → cond (eqb m 2) (k + 3) k ≡ p → isFault (cond t (fault k m i j) (fault 0 0 0 0)) ≡ true
+    → position (cond t (fault k m i j) (fault 0 0 0 0)) ≡ p
 one-placed true k m i j p e h = e
 one-placed false k m i j p e h = cc
 
@@ -183,9 +152,9 @@ placed12 k p v e =
 drill-faults : Values → List Fault
 drill-faults v = fault10 1 v ∷ fault11 1 v ∷ fault12 1 v ∷ fault10 2 v ∷ fault11 2 v ∷ fault12 2 v ∷ []
 
-drill-chain : (v : Values) → drillFault v ≡ chain (drill-faults v)
+drill-row : (v : Values) → drillFault v ≡ inRow (drill-faults v)
 unfolding drillFault spacingVerdict memberVerdict verdictIn fault10 fault11 fault12 drill-faults
-drill-chain v = six (fault10 1 v) (fault11 1 v) (fault12 1 v) (fault10 2 v) (fault11 2 v) (fault12 2 v) (edge-clean 2 v)
+drill-row v = six (fault10 1 v) (fault11 1 v) (fault12 1 v) (fault10 2 v) (fault11 2 v) (fault12 2 v) (edge-clean 2 v)
 
 drill-placed : (v : Values) → Placed 10 (drill-faults v)
 unfolding drill-faults Placed
@@ -200,21 +169,21 @@ drill-placed v = (
   ),
 )
 
-drill-position : (s : List ℕ) → position (drillFault (valuesOf s)) ≡ firstFrom 10 (drillTests s)
+drill-position : (s : List ℕ) → position (drillFault (valuesOf s)) ≡ firstHolding 10 (drillTests s)
 unfolding drill-faults
 drill-position s =
-    ap position (drill-chain (valuesOf s)) ∙ chain-position 9 (drill-faults (valuesOf s)) (drill-placed (valuesOf s))
+    ap position (drill-row (valuesOf s)) ∙ row-position 9 (drill-faults (valuesOf s)) (drill-placed (valuesOf s))
 
 drill-none : (v : Values) → drillFault v .number ≡ 0 → drillFault v ≡ fault 0 0 0 0
 unfolding Clean
-drill-none v h = drill-chain v ∙ chain-clean (drill-faults v) (rw drill-chain at h)
+drill-none v h = drill-row v ∙ row-clean (drill-faults v) (rw drill-row at h)
 
 -- ---- the whole order
-pub position-first : (s : List ℕ) → position (refusalOf s) ≡ firstFrom 1 (tests s)
+pub position-first : (s : List ℕ) → position (refusalOf s) ≡ firstHolding 1 (tests s)
 unfolding refusalOf refusalNumber
 position-first s = of (eqb (refusalNumber s) 0) refl
   where
-    of : (b : Bool) → eqb (refusalNumber s) 0 ≡ b → position (refusalOf s) ≡ firstFrom 1 (tests s)
+    of : (b : Bool) → eqb (refusalNumber s) 0 ≡ b → position (refusalOf s) ≡ firstHolding 1 (tests s)
     of true e =
         simp e
         (drill-position s
@@ -224,17 +193,42 @@ position-first s = of (eqb (refusalNumber s) 0) refl
         simp e
         (sym (first-kept 0 (scriptTests s ++ designerTests s) (drillTests s) (eqb-false _ _ e)))
 
--- ---- the outcome
-pub outcome-numbered : (s : List ℕ) {r : Stage} {n : ℕ} (m : ℕ) → r ≡ stage (refusalNumber s) → r ≡ Refused m → n ≡ stageNumber r → refusedBy (fault n 0 0 0) ≡ outcomeOf s
-unfolding outcomeOf outcome refusalOf
-outcome-numbered s m e h q =
-    let g = stage-refused (refusalNumber s) m e h in
-    simp (q ∙ g .0, ne-eqb (refusalNumber s) 0 (g .1))
-
-pub outcome-fault : (s : List ℕ) (f : Fault) → f ≡ drillFault (valuesOf s) → refusalNumber s ≡ 0 → (f .number ≡ 0 → ⊥) → refusedBy f ≡ outcomeOf s
-unfolding outcomeOf outcome refusalOf
-outcome-fault s f e h g = simp (h, ← e, ne-eqb (f .number) 0 g)
-
-pub outcome-accepted : (s : List ℕ) (f : Fault) → f ≡ drillFault (valuesOf s) → refusalNumber s ≡ 0 → f .number ≡ 0 → record { number = 0; member = 0; first = 0; second = 0; values = valuesOf s } ≡ outcomeOf s
+pub outcome-accepted : (s : List ℕ) (f : Fault) → f ≡ drillFault (valuesOf s) → refusalNumber s ≡ 0 → f .number ≡ 0
+    → record { number = 0; member = 0; first = 0; second = 0; values = valuesOf s } ≡ outcomeOf s
 unfolding outcomeOf outcome refusalOf
 outcome-accepted s f e h g = simp (h, drill-none (valuesOf s) (ap (λ (z : Fault). z .number) (sym e) ∙ g))
+
+-- ---- the outcome, by what the stages answered
+numbered : (s : List ℕ) {n : ℕ} → n ≡ refusalNumber s → (n ≡ 0 → ⊥) → refusedBy (fault n 0 0 0) ≡ outcomeOf s
+unfolding outcomeOf outcome refusalOf
+numbered s {n} e h = simp (← e, ne-eqb n 0 h)
+
+module _ (s : List ℕ) {l : Layout} (e : l ≡ layout (firstHolding 1 (scriptTests s)) (partsOf s)) where
+  pub refused-layout : {m n : ℕ} → l ≡ LayoutRefused m → n ≡ layoutNumber l → refusedBy (fault n 0 0 0) ≡ outcomeOf s
+  unfolding refusalNumber
+  refused-layout h q =
+      let f = layout-refused _ _ e h in
+      let k = q ∙ layout-number _ _ e in
+      numbered s (k ∙ sym (first-kept 0 (scriptTests s) (designerTests s) f)) (λ z. f (sym k ∙ z))
+
+  module _ {p : Parts} (h : l ≡ Laid p) {v : Values} (w : v ≡ valuesOf s) {r : Stage} (g : r ≡ stage (firstHolding 7 (valueTests v))) where
+    number-is : refusalNumber s ≡ firstHolding 7 (valueTests v)
+    unfolding refusalNumber
+    number-is = rw w (first-zero 0 7 (scriptTests s) (designerTests s) (laid-number _ _ e h) refl)
+
+    pub refused-values : {m n : ℕ} → r ≡ Refused m → n ≡ stageNumber r → refusedBy (fault n 0 0 0) ≡ outcomeOf s
+    refused-values k q =
+        let f = stage-refused _ g k in
+        let o = q ∙ stage-number _ g in
+        numbered s (o ∙ sym number-is) (λ z. f (sym o ∙ z))
+
+    module _ (k : r ≡ Passed) {f : Fault} (d : f ≡ drillFault v) where
+      none-numbered : refusalNumber s ≡ 0
+      none-numbered = number-is ∙ stage-passed _ g k
+
+      pub refused-drill : (f .number ≡ 0 → ⊥) → refusedBy f ≡ outcomeOf s
+      unfolding outcomeOf outcome refusalOf
+      refused-drill n = simp (none-numbered, ← w, ← d, ne-eqb (f .number) 0 n)
+
+      pub accepted : f .number ≡ 0 → record { number = 0; member = 0; first = 0; second = 0; values = v } ≡ outcomeOf s
+      accepted n = rw w (outcome-accepted s f (rw w at d) none-numbered n)

@@ -1,5 +1,6 @@
 pub mod Columns
 pub mod Faults
+pub mod Holding
 pub mod Order
 pub mod Stages
 pub mod Tests

@@ -1,231 +1,154 @@
 -- Laws of the stages of reading: what each one's answer says of the tests, and what the tests leave for the next.
 use Prim.Native.Nat.{ℕ, zero, suc, _+_, _*_, _≤_, _<_, _-_}
 use native.Mathlib.Omega.{arith}
-use native.Mathlib.Nat.{pos-of-ne-zero, not-suc-le-zero}
+use native.Mathlib.Nat.{add-zero, add-sub-cancel-left}
+use native.Mathlib.Numerals.{add-one}
 use mathlib.Core.Path.{_≡_, refl, sym, ap, _∙_}
-use mathlib.Core.List.{List, [], _∷_, _++_}
-use mathlib.Core.Bool.{Bool, true, false, false≢true, cond, not, _&&_}
-use lib.Dec.{eqb, leb}
-use lib.ListN.{length, drop, length-drop}
-use lib.Seq.{length-take-le}
-use borrow.Author.Tests.{le-ltb, lt-ltb, ltb-false, eq-eqb, eqb-true, eqb-false, not-true, not-false}
-use Rattle.numbers.specs.Numbers.{u8At}
-use Rattle.joint.specs.Layout.{version, pairCount, pairOffset, pairLength, pairSum, partOfPair, kindOfPair, pairOfKind, partOfKind, valuesOf}
-use Rattle.joint.specs.Refusal.{refusal1, refusal2, refusal3, refusal4, refusal5, refusal6, pairFrom, positionsLength, oneIf, once, fieldsWithin, emptyOutlines, noForce, scriptTests, designerTests, firstFrom, refusalNumber}
-use Rattle.joint.specs.Stage.{stage, stageNumber, headerTests, pairStage, valueTests, weightOf, Chained, Sized}
+use mathlib.Core.List.{List}
+use mathlib.Core.Bool.{Bool, true, false, cond, not, _&&_, _||_, false≢true, and-false, and-eq-true-iff}
+use lib.Dec.{eqb, leb, lit≤}
+use lib.ListN.{length, getD, take, drop, replicate, length-drop}
+use lib.Seq.{length-take-le, getD-take, getD-drop}
+use mir.Syntax.{w32}
+use mir.Val.{SFits, ofZ}
+use borrow.Author.Tests.{lt-ltb, le-ltb, eq-eqb, ne-eqb, eqb-true, not-true, not-false}
+use Rattle.numbers.specs.Numbers.{u8At, u16At}
+use Rattle.chain.specs.declared.Width.the-variants.{Two}
+use Rattle.chain.specs.Chain.{numberAt, offsetOf, lengthOf, bound, chained, Read}
+use Rattle.chain.proofs.Laws.{filled-at, follow, inside}
+use Rattle.joint.specs.Layout.{version, pairCount, pairOffset, pairLength, pairSum, partOfPair, kindOfPair, pairOfKind, partOfKind}
+use Rattle.joint.specs.Layout.{membersIn, dowelIn, positionsIn, loadsIn, valuesOf}
+use Rattle.joint.specs.Refusal.{refusal1, refusal2, refusal3, refusal4, refusal5, refusal6, positionsLength, oneIf, once, firstHolding, scriptTests}
+use Rattle.joint.specs.Refusal.{between, memberWithin, membersWithin, dowelWithin, positionsWithin, loadsWithin, fieldsWithin}
+use Rattle.joint.specs.Refusal.{outlineEmpty, emptyOutlines, noForce}
+use Rattle.joint.specs.Stage.{Bounded, present, partAt, found, partTests, partsOf, layout, layoutNumber, Stretch, LaidOut}
+use Rattle.joint.specs.Stage.{stage, stageNumber, valueTests}
+use Rattle.joint.specs.declared.Members.{Members}
+use Rattle.joint.specs.declared.Dowel.{Dowel}
+use Rattle.joint.specs.declared.Positions.{Positions}
+use Rattle.joint.specs.declared.Loads.{Loads}
 use Rattle.joint.specs.declared.Values.{Values}
-use Rattle.joint.specs.declared.Pair.{Pair}
-use Rattle.joint.specs.declared.Pair.the-variants.{End, Broken}
 use Rattle.joint.specs.declared.Stage.{Stage}
 use Rattle.joint.specs.declared.Stage.the-variants.{Passed, Refused}
-use Rattle.joint.proofs.Tests.{failed, held, equal, unequal, first-of, second-of}
+use Rattle.joint.specs.declared.layout.Part.{Part}
+use Rattle.joint.specs.declared.layout.Parts.{Parts}
+use Rattle.joint.specs.declared.layout.Layout.{Layout}
+use Rattle.joint.specs.declared.layout.Layout.the-variants.{Laid, Refused as LayoutRefused}
+use Rattle.joint.proofs.Holding.{none-holds}
+use Rattle.joint.proofs.Tests.{equal, unequal, zero-bits}
 
--- ---- the first test that holds
-first-passed : (k n : ℕ) (xs ys : List Bool) → stage (firstFrom (suc k) xs) ≡ Passed → length xs + suc k ≡ n → firstFrom (suc k) (xs ++ ys) ≡ firstFrom n ys
-unfolding firstFrom stage
-first-passed k n [] ys h e = ap (λ (m : ℕ). firstFrom m ys) (omega arith)
-first-passed k n (true ∷ xs) ys h e = cc
-first-passed k n (false ∷ xs) ys h e = first-passed (suc k) n xs ys h (omega arith)
+-- ---- the number behind an answer
+module _ {r : Layout} where
+  pub layout-number : (n : ℕ) (p : Parts) → r ≡ layout n p → layoutNumber r ≡ n
+  unfolding layout layoutNumber
+  layout-number zero p e = ap layoutNumber e
+  layout-number (suc n) p e = ap layoutNumber e
 
-first-refused : (k m : ℕ) (xs ys : List Bool) → stage (firstFrom (suc k) xs) ≡ Refused m → firstFrom (suc k) (xs ++ ys) ≡ firstFrom (suc k) xs
-unfolding firstFrom stage
-first-refused k m [] ys h = cc
-first-refused k m (true ∷ xs) ys h = refl
-first-refused k m (false ∷ xs) ys h = first-refused (suc k) m xs ys h
+  pub laid-number : {q : Parts} (n : ℕ) (p : Parts) → r ≡ layout n p → r ≡ Laid q → n ≡ 0
+  unfolding layout
+  laid-number zero p e h = refl
+  laid-number (suc n) p e h = cc
 
--- a stage that passed leaves the tests after it
-pub stage-on : (k n : ℕ) (xs ys : List Bool) → stage (firstFrom (suc k) xs) ≡ Passed → length xs + suc k ≡ n → stage (firstFrom (suc k) (xs ++ ys)) ≡ stage (firstFrom n ys)
-stage-on k n xs ys h e = ap stage (first-passed k n xs ys h e)
+  pub laid-parts : {q : Parts} (n : ℕ) (p : Parts) → r ≡ layout n p → r ≡ Laid q → q ≡ p
+  unfolding layout
+  laid-parts zero p e h = cc
+  laid-parts (suc n) p e h = cc
 
--- a stage that refused has the number
-pub stage-stop : {r : Stage} (k m : ℕ) (xs ys : List Bool) → r ≡ stage (firstFrom (suc k) xs) → r ≡ Refused m → r ≡ stage (firstFrom (suc k) (xs ++ ys))
-stage-stop k m xs ys e h = e ∙ ap stage (sym (first-refused k m xs ys (sym e ∙ h)))
+  pub layout-refused : {m : ℕ} (n : ℕ) (p : Parts) → r ≡ layout n p → r ≡ LayoutRefused m → n ≡ 0 → ⊥
+  unfolding layout
+  layout-refused n p e h z = let o : _≡_ {A = ℕ} 0 1 = cc in omega arith
 
--- a stage that passed: no test of it held
-pub passed-head : (k : ℕ) (b : Bool) (tests : List Bool) → stage (firstFrom (suc k) (b ∷ tests)) ≡ Passed → b ≡ false
-unfolding firstFrom stage
-passed-head k true tests h = cc
-passed-head k false tests h = refl
+module _ {r : Stage} where
+  pub stage-number : (n : ℕ) → r ≡ stage n → stageNumber r ≡ n
+  unfolding stage stageNumber
+  stage-number zero e = ap stageNumber e
+  stage-number (suc n) e = ap stageNumber e
 
-pub passed-tail : (k : ℕ) (b : Bool) (tests : List Bool) → stage (firstFrom (suc k) (b ∷ tests)) ≡ Passed → stage (firstFrom (suc (suc k)) tests) ≡ Passed
-unfolding firstFrom stage
-passed-tail k true tests h = cc
-passed-tail k false tests h = h
+  pub stage-passed : (n : ℕ) → r ≡ stage n → r ≡ Passed → n ≡ 0
+  unfolding stage
+  stage-passed zero e h = refl
+  stage-passed (suc n) e h = cc
 
--- the same of the numbers
-pub first-zero : (k n : ℕ) (xs ys : List Bool) → firstFrom (suc k) xs ≡ 0 → length xs + suc k ≡ n → firstFrom (suc k) (xs ++ ys) ≡ firstFrom n ys
-unfolding stage
-first-zero k n xs ys h e = first-passed k n xs ys (ap stage h) e
+  pub stage-refused : {m : ℕ} (n : ℕ) → r ≡ stage n → r ≡ Refused m → n ≡ 0 → ⊥
+  unfolding stage
+  stage-refused n e h z = let o : _≡_ {A = ℕ} 0 1 = cc in omega arith
 
-pub first-kept : (k : ℕ) (xs ys : List Bool) → (firstFrom (suc k) xs ≡ 0 → ⊥) → firstFrom (suc k) (xs ++ ys) ≡ firstFrom (suc k) xs
-unfolding firstFrom
-first-kept k [] ys h = absurd (h refl)
-first-kept k (true ∷ xs) ys h = refl
-first-kept k (false ∷ xs) ys h = first-kept (suc k) xs ys h
+-- ---- refusal 4: what a right chain says of its parts
+offset-is : (s : List ℕ) (k : ℕ) → offsetOf Two s 4 k ≡ pairOffset s (suc k)
+unfolding numberAt
+offset-is s k = ap (u16At s) (omega arith)
 
--- the number behind a stage's answer
-pub stage-refused : {r : Stage} (n m : ℕ) → r ≡ stage n → r ≡ Refused m → (stageNumber r ≡ n) × (n ≡ 0 → ⊥)
-unfolding stage stageNumber
-stage-refused zero m e h = absurd (false≢true (of (sym e ∙ h)))
-  where
-    of : Passed ≡ Refused m → false ≡ true
-    of h = cc
-stage-refused (suc n) m e h = (ap stageNumber e, λ z. omega arith)
+length-is : (s : List ℕ) (k : ℕ) → lengthOf Two s 4 k ≡ pairLength s (suc k)
+unfolding numberAt
+length-is s k = ap (u16At s) (omega arith)
 
-pub stage-passed : {r : Stage} (n : ℕ) → r ≡ stage n → r ≡ Passed → n ≡ 0
-unfolding stage
-stage-passed zero e h = refl
-stage-passed (suc n) e h = cc
+sum-is : (s : List ℕ) (k : ℕ) → bound Two s 4 20 (suc k) ≡ pairSum s (suc k)
+unfolding bound
+sum-is s k = rw (offset-is s k, length-is s k)
 
--- ---- refusals 1 to 3, one after the other
-pub header-short : (s : List ℕ) → length s < 20 → Refused 1 ≡ stage (firstFrom 1 (headerTests s))
-unfolding refusal1 firstFrom stage
-header-short s l = simp (lt-ltb (length s) 20 l)
+chain-inside : (s : List ℕ) → chained Two s 4 20 4 ≡ true → (k : ℕ) → k < 4 → pairSum s (suc k) ≤ length s
+chain-inside s h k l = rw (sum-is s k) at (inside Two s 4 20 4 h (suc k) (omega arith))
 
-pub header-version : (s : List ℕ) {n : ℕ} → 20 ≤ length s → n ≡ version s → (n ≡ 1 → ⊥) → Refused 2 ≡ stage (firstFrom 1 (headerTests s))
-unfolding refusal1 refusal2 firstFrom stage
-header-version s l e h = simp (le-ltb (length s) 20 l, unequal e h)
+chain-some : (s : List ℕ) → chained Two s 4 20 4 ≡ true → (k : ℕ) → k < 4 → 0 < pairLength s (suc k)
+chain-some s h k l = rw (length-is s k) at (follow Two s 4 20 4 h k l .some)
 
-pub header-count : (s : List ℕ) {n m : ℕ} → 20 ≤ length s → n ≡ version s → n ≡ 1 → m ≡ pairCount s → (m ≡ 4 → ⊥) → Refused 3 ≡ stage (firstFrom 1 (headerTests s))
-unfolding refusal1 refusal2 refusal3 firstFrom stage
-header-count s l e h f g = simp (le-ltb (length s) 20 l, equal e h, unequal f g)
-
-pub header-right : (s : List ℕ) {n m : ℕ} → 20 ≤ length s → n ≡ version s → n ≡ 1 → m ≡ pairCount s → m ≡ 4 → Passed ≡ stage (firstFrom 1 (headerTests s))
-unfolding refusal1 refusal2 refusal3 firstFrom stage
-header-right s l e h f g = simp (le-ltb (length s) 20 l, equal e h, equal f g)
-
--- ---- refusals 1 to 4
--- a pair's answer, by the pair's test at its true start
-pub pair-broken : {r : Pair} (s : List ℕ) (k : ℕ) {at start : ℕ} → at ≡ start → r ≡ pairStage s k at → r ≡ Broken → pairFrom s k start ≡ false
-unfolding pairStage
-pair-broken s k {at} {start} q e h = of (pairFrom s k start) (rw q at (sym e ∙ h))
-  where
-    of : (b : Bool) → cond b (End (pairSum s k)) Broken ≡ Broken → b ≡ false
-    of true h = cc
-    of false h = refl
-
-pub pair-follows : {r : Pair} (s : List ℕ) (k : ℕ) {at start e : ℕ} → at ≡ start → r ≡ pairStage s k at → r ≡ End e → pairFrom s k start ≡ true
-unfolding pairStage
-pair-follows s k {at} {start} {e} q p h = of (pairFrom s k start) (rw q at (sym p ∙ h))
-  where
-    of : (b : Bool) → cond b (End (pairSum s k)) Broken ≡ End e → b ≡ true
-    of true h = refl
-    of false h = cc
-
-pub pair-end : {r : Pair} (s : List ℕ) (k at : ℕ) {e : ℕ} → r ≡ pairStage s k at → r ≡ End e → e ≡ pairSum s k
-unfolding pairStage
-pair-end s k at {e} p h = of (pairFrom s k at) (sym p ∙ h)
-  where
-    of : (b : Bool) → cond b (End (pairSum s k)) Broken ≡ End e → e ≡ pairSum s k
-    of true h = cc
-    of false h = cc
-
-pub long-of : (s : List ℕ) → refusal1 s ≡ false → 20 ≤ length s
-unfolding refusal1
-long-of s h = ltb-false _ _ h
-
-pair-at : (s : List ℕ) (k start : ℕ) → pairFrom s k start ≡ true → pairOffset s k ≡ start
-unfolding pairFrom
-pair-at s k start h = eqb-true _ _ (first-of _ _ h)
-
-pair-filled : (s : List ℕ) (k start : ℕ) → pairFrom s k start ≡ true → 0 < pairLength s k
-unfolding pairFrom
-pair-filled s k start h =
-    pos-of-ne-zero (eqb-false _ _ (not-true _ (second-of (eqb (pairOffset s k) start) _ h)))
-
-by-four : (P : ℕ → Type 0) → P 1 → P 2 → P 3 → P 4 → (k : ℕ) → 1 ≤ k → k ≤ 4 → P k
-by-four P a b c d zero h g = absurd (not-suc-le-zero h)
-by-four P a b c d (suc zero) h g = a
-by-four P a b c d (suc (suc zero)) h g = b
-by-four P a b c d (suc (suc (suc zero))) h g = c
-by-four P a b c d (suc (suc (suc (suc zero)))) h g = d
-by-four P a b c d (suc (suc (suc (suc (suc k))))) h g = absurd (omega arith)
-
-module _ (s : List ℕ) (long : 20 ≤ length s) (h : refusal4 s ≡ false) where
-  rule : (pairFrom s 1 20 && pairFrom s 2 (pairSum s 1) && pairFrom s 3 (pairSum s 2) && pairFrom s 4 (pairSum s 3) && eqb (pairSum s 4) (length s)) ≡ true
-  unfolding refusal4
-  rule = not-false _ h
-
-  first : pairFrom s 1 20 ≡ true
-  first = first-of _ _ (first-of _ _ (first-of _ _ (first-of _ _ rule)))
-
-  second : pairFrom s 2 (pairSum s 1) ≡ true
-  second = second-of (pairFrom s 1 20) _ (first-of _ _ (first-of _ _ (first-of _ _ rule)))
-
-  third : pairFrom s 3 (pairSum s 2) ≡ true
-  third = second-of (pairFrom s 1 20 && pairFrom s 2 (pairSum s 1)) _ (first-of _ _ (first-of _ _ rule))
-
-  fourth : pairFrom s 4 (pairSum s 3) ≡ true
-  fourth = second-of (pairFrom s 1 20 && pairFrom s 2 (pairSum s 1) && pairFrom s 3 (pairSum s 2)) _ (first-of _ _ rule)
-
-  last : pairSum s 4 ≡ length s
-  last =
-      eqb-true _ _
-      (second-of (pairFrom s 1 20 && pairFrom s 2 (pairSum s 1) && pairFrom s 3 (pairSum s 2) && pairFrom s 4 (pairSum s 3)) _ rule)
-
-  pub chained : Chained s
-  chained =
-      let p2 = pair-at s 2 _ second in
-      let p3 = pair-at s 3 _ third in
-      let p4 = pair-at s 4 _ fourth in
-      let l = last in
-      record {
-        long = long;
-        inside = by-four (λ (k : ℕ). pairSum s k ≤ length s) (omega arith) (omega arith) (omega arith) (omega arith);
-        filled =
-            by-four (λ (k : ℕ). 0 < pairLength s k)
-            (pair-filled s 1 _ first)
-            (pair-filled s 2 _ second)
-            (pair-filled s 3 _ third)
-            (pair-filled s 4 _ fourth);
-      }
-
--- ---- parts of a chained record
-pub part-length : (s : List ℕ) (k : ℕ) → pairSum s k ≤ length s → length (partOfPair s k) ≡ pairLength s k
-unfolding partOfPair
-part-length s k h =
-    length-take-le (pairLength s k) (drop (pairOffset s k) s) (rw length-drop (omega arith))
-
-pair-range : (a b c : Bool) → (1 ≤ cond a 1 (cond b 2 (cond c 3 4))) × (cond a 1 (cond b 2 (cond c 3 4)) ≤ 4)
-pair-range true b c = omega arith
-pair-range false true c = omega arith
-pair-range false false true = omega arith
-pair-range false false false = omega arith
-
-pub kind-range : (s : List ℕ) (kind : ℕ) → (1 ≤ pairOfKind s kind) × (pairOfKind s kind ≤ 4)
-unfolding pairOfKind
-kind-range s kind = pair-range (eqb (kindOfPair s 1) kind) (eqb (kindOfPair s 2) kind) (eqb (kindOfPair s 3) kind)
-
--- ---- refusal 6
-pub positions-length : (part : List ℕ) → positionsLength part ≡ true → length part ≡ 2 + 8 * u8At part 1
-unfolding positionsLength
-positions-length part h = eqb-true _ _ (second-of (leb 2 (length part)) _ h)
-
-pub sized : (s : List ℕ) → refusal6 s ≡ false → Sized s
-unfolding refusal6
-sized s h =
-    let r = not-false _ h in
-    let m = eqb (length (partOfKind s 1)) 42 in
-    let d = eqb (length (partOfKind s 2)) 3 in
-    let p = positionsLength (partOfKind s 3) in
+pub bounded : (s bounds : List ℕ) {b : Bool} → Read Two s 4 20 4 (replicate 5 0) bounds b → not b ≡ false → Bounded s bounds
+bounded s bounds r h =
+    let right = sym (r .whole) ∙ not-false _ h in
     record {
-      members = eqb-true _ _ (first-of _ _ (first-of _ _ (first-of _ _ r)));
-      dowel = eqb-true _ _ (second-of m _ (first-of _ _ (first-of _ _ r)));
-      positions = positions-length (partOfKind s 3) (second-of (m && d) _ (first-of _ _ r));
-      loads = eqb-true _ _ (second-of (m && d && p) _ r);
+      start = λ k l.
+          rw (r .bounds)
+          (filled-at _ (replicate 5 0) k 5 (omega arith) (omega arith) ∙ sym (follow Two s 4 20 4 right k l .start) ∙ offset-is s k);
+      end = λ k l. rw (r .bounds) (filled-at _ (replicate 5 0) (suc k) 5 (omega arith) (omega arith) ∙ sum-is s k);
+      some = chain-some s right;
+      inside = chain-inside s right;
     }
 
-pub layout-right : (s : List ℕ) → stage (firstFrom 1 (scriptTests s)) ≡ Passed → Chained s × Sized s
-layout-right s h =
-    let h4 = passed-tail 2 (refusal3 s) _ (passed-tail 1 (refusal2 s) _ (passed-tail 0 (refusal1 s) _ h)) in
-    let h6 = passed-tail 4 (refusal5 s) _ (passed-tail 3 (refusal4 s) _ h4) in
-    (chained s (long-of s (passed-head 0 (refusal1 s) _ h)) (passed-head 3 (refusal4 s) _ h4), sized s (passed-head 5 (refusal6 s) _ h6))
-
 -- ---- refusal 5
-one-at-most : (b : Bool) → oneIf b ≤ 1
-unfolding oneIf
-one-at-most true = omega arith
-one-at-most false = omega arith
+module _ (s : List ℕ) (kind : ℕ) where
+  found-at : (k : ℕ) → k < 4 → ((j : ℕ) → j < k → kindOfPair s (suc j) ≡ kind → ⊥) → kindOfPair s (suc k) ≡ kind
+      → partAt s (suc k) ≡ found s kind
+  unfolding found present pairOfKind
+  found-at zero l f e = simp (eq-eqb _ _ e)
+  found-at (suc zero) l f e = simp (ne-eqb _ _ (f 0 (omega arith)), eq-eqb _ _ e)
+  found-at (suc (suc zero)) l f e = simp (ne-eqb _ _ (f 0 (omega arith)), ne-eqb _ _ (f 1 (omega arith)), eq-eqb _ _ e)
+  found-at (suc (suc (suc zero))) l f e =
+      simp (ne-eqb _ _ (f 0 (omega arith)), ne-eqb _ _ (f 1 (omega arith)), ne-eqb _ _ (f 2 (omega arith)), eq-eqb _ _ e)
+  found-at (suc (suc (suc (suc k)))) l f e = absurd (omega arith)
+
+  found-nowhere : ((j : ℕ) → j < 4 → kindOfPair s (suc j) ≡ kind → ⊥) → record { start = 0; bytes = 0 } ≡ found s kind
+  unfolding found present
+  found-nowhere f = simp (
+    ne-eqb _ _ (f 0 (omega arith)),
+    ne-eqb _ _ (f 1 (omega arith)),
+    ne-eqb _ _ (f 2 (omega arith)),
+    ne-eqb _ _ (f 3 (omega arith)),
+  )
+
+module _ {s bounds : List ℕ} (b : Bounded s bounds) where
+  -- the first byte of part k
+  abbrev pub kindAt : ℕ → ℕ
+  kindAt k = getD s (getD bounds k 0) 0
+
+  kind-at : (k : ℕ) → k < 4 → kindOfPair s (suc k) ≡ kindAt k
+  unfolding partOfPair
+  kind-at k l = getD-take _ _ 0 0 (b .some k l) ∙ getD-drop (pairOffset s (suc k)) s 0 0 ∙ rw (add-zero, b .start k l)
+
+  pub start-within : (k : ℕ) → k < 4 → getD bounds k 0 < length s
+  start-within k l = omega (arith, b .start k l, b .some k l, b .inside k l)
+
+  pub start-first : (k : ℕ) → k < 4 → getD bounds k 0 ≤ getD bounds (k + 1) 0
+  start-first k l = rw add-one (omega (arith, b .start k l, b .end k l))
+
+  pub part-found : {kind k : ℕ} → k < 4 → ((j : ℕ) → j < k → kindAt j ≡ kind → ⊥) → kindAt k ≡ kind
+      → record { start = getD bounds k 0; bytes = getD bounds (k + 1) 0 - getD bounds k 0 } ≡ found s kind
+  unfolding partAt
+  part-found {kind} {k} l f e =
+      rw (add-one, b .start k l, b .end k l, add-sub-cancel-left)
+      (found-at s kind k l (λ j g. rw (kind-at j (omega arith)) (f j g)) (kind-at k l ∙ e))
+
+  pub part-nowhere : {kind : ℕ} → ((j : ℕ) → j < 4 → kindAt j ≡ kind → ⊥) → record { start = 0; bytes = 0 } ≡ found s kind
+  part-nowhere {kind} f = found-nowhere s kind (λ j l. rw (kind-at j l) (f j l))
 
 -- how often a kind occurs
 count : List ℕ → ℕ → ℕ
@@ -233,95 +156,277 @@ count s kind =
     oneIf (eqb (kindOfPair s 1) kind) + oneIf (eqb (kindOfPair s 2) kind)
     + oneIf (eqb (kindOfPair s 3) kind) + oneIf (eqb (kindOfPair s 4) kind)
 
-count-most : (s : List ℕ) (kind : ℕ) → count s kind ≤ 4
-unfolding count
-count-most s kind =
-    omega (
-      arith,
-      one-at-most (eqb (kindOfPair s 1) kind),
-      one-at-most (eqb (kindOfPair s 2) kind),
-      one-at-most (eqb (kindOfPair s 3) kind),
-      one-at-most (eqb (kindOfPair s 4) kind),
-    )
+some-of : (a b c d : Bool) → (a || b || c || d) ≡ true → 1 ≤ oneIf a + oneIf b + oneIf c + oneIf d
+unfolding oneIf
+some-of true b c d h = omega arith
+some-of false true c d h = omega arith
+some-of false false true d h = omega arith
+some-of false false false true h = lit≤ tt
+some-of false false false false h = absurd (false≢true h)
 
-pub weight-most : (kind : ℕ) → weightOf kind ≤ 156
-unfolding weightOf
-weight-most kind =
-    omega (
-      arith,
-      one-at-most (eqb kind 1),
-      one-at-most (eqb kind 2),
-      one-at-most (eqb kind 3),
-      one-at-most (eqb kind 4),
-    )
+none-of : (a b c d : Bool) → (a || b || c || d) ≡ false → (a ≡ false) × (b ≡ false) × (c ≡ false) × (d ≡ false)
+none-of true b c d h = absurd (false≢true (sym h))
+none-of false true c d h = absurd (false≢true (sym h))
+none-of false false true d h = absurd (false≢true (sym h))
+none-of false false false d h = (refl, refl, refl, h)
 
-pub weights : List ℕ → ℕ
-weights s =
-    weightOf (kindOfPair s 1) + weightOf (kindOfPair s 2) + weightOf (kindOfPair s 3) + weightOf (kindOfPair s 4)
+-- a part is of one kind at most
+one-kind : (x : ℕ) → oneIf (eqb x 1) + oneIf (eqb x 2) + oneIf (eqb x 3) + oneIf (eqb x 4) ≤ 1
+unfolding oneIf
+one-kind zero = lit≤ tt
+one-kind (suc zero) = lit≤ tt
+one-kind (suc (suc zero)) = lit≤ tt
+one-kind (suc (suc (suc zero))) = lit≤ tt
+one-kind (suc (suc (suc (suc zero)))) = lit≤ tt
+one-kind (suc (suc (suc (suc (suc x))))) =
+    let y = suc (suc (suc (suc (suc x)))) in
+    simp (ne-eqb y 1 (λ e. omega arith), ne-eqb y 2 (λ e. omega arith), ne-eqb y 3 (λ e. omega arith), ne-eqb y 4 (λ e. omega arith)) (lit≤ tt)
 
-pub weights-of : (s : List ℕ) {a b c d : ℕ} → a ≡ weightOf (kindOfPair s 1) → b ≡ weightOf (kindOfPair s 2) → c ≡ weightOf (kindOfPair s 3) → d ≡ weightOf (kindOfPair s 4) → a + b + c + d ≡ weights s
-unfolding weights
-weights-of s e f g h = simp (e, f, g, h)
+-- four kinds in four parts are there once each
+module _ (s : List ℕ) where
+  counted : (kind : ℕ) → present s kind ≡ true → 1 ≤ count s kind
+  unfolding present count
+  counted kind = some-of (eqb (kindOfPair s 1) kind) _ _ _
 
--- the sum of the weights, digit by digit
-digits : (s : List ℕ) → weights s ≡ count s 1 + 5 * count s 2 + 25 * count s 3 + 125 * count s 4
-unfolding weights weightOf count
-digits s = omega arith
+  missing : (kind : ℕ) → present s kind ≡ false → once s kind ≡ false
+  unfolding present once oneIf
+  missing kind h = let n = none-of (eqb (kindOfPair s 1) kind) _ _ _ h in simp (n .0, n .1, n .2, n .3)
 
-pub kinds-once : (s : List ℕ) → weights s ≡ 156 → refusal5 s ≡ false
-unfolding refusal5 once count
-kinds-once s h =
-    let e = digits s in
-    let m1 = count-most s 1 in
-    let m2 = count-most s 2 in
-    let m3 = count-most s 3 in
-    let m4 = count-most s 4 in
-    simp (
-      eq-eqb (count s 1) 1 (omega (arith, e, h, m1, m2, m3, m4)),
-      eq-eqb (count s 2) 1 (omega (arith, e, h, m1, m2, m3, m4)),
-      eq-eqb (count s 3) 1 (omega (arith, e, h, m1, m2, m3, m4)),
-      eq-eqb (count s 4) 1 (omega (arith, e, h, m1, m2, m3, m4)),
-    )
+  all-once : 1 ≤ count s 1 → 1 ≤ count s 2 → 1 ≤ count s 3 → 1 ≤ count s 4 → refusal5 s ≡ false
+  unfolding refusal5 once count
+  all-once a b c d =
+      let k1 = one-kind (kindOfPair s 1) in
+      let k2 = one-kind (kindOfPair s 2) in
+      let k3 = one-kind (kindOfPair s 3) in
+      let k4 = one-kind (kindOfPair s 4) in
+      simp (
+        eq-eqb (count s 1) 1 (omega arith),
+        eq-eqb (count s 2) 1 (omega arith),
+        eq-eqb (count s 3) 1 (omega arith),
+        eq-eqb (count s 4) 1 (omega arith),
+      )
 
-pub kinds-astray : (s : List ℕ) → (weights s ≡ 156 → ⊥) → refusal5 s ≡ true
-unfolding refusal5 once count
-kinds-astray s h = go (once s 1 && once s 2 && once s 3 && once s 4) refl
+  kinds-test : (a b c d : Bool) → present s 1 ≡ a → present s 2 ≡ b → present s 3 ≡ c → present s 4 ≡ d
+      → refusal5 s ≡ (not a || not b || not c || not d)
+  unfolding refusal5
+  kinds-test true true true true e f g h = all-once (counted 1 e) (counted 2 f) (counted 3 g) (counted 4 h)
+  kinds-test false b c d e f g h = simp (missing 1 e)
+  kinds-test true false c d e f g h = simp (missing 2 f, and-false)
+  kinds-test true true false d e f g h = simp (missing 3 g, and-false)
+  kinds-test true true true false e f g h = simp (missing 4 h, and-false)
+
+-- the pair of a kind is one of the four
+pair-in : (P : ℕ → Type 0) → ((k : ℕ) → k < 4 → P (suc k)) → (s : List ℕ) (kind : ℕ) → P (pairOfKind s kind)
+unfolding pairOfKind
+pair-in P f s kind = of (eqb (kindOfPair s 1) kind) (eqb (kindOfPair s 2) kind) (eqb (kindOfPair s 3) kind)
   where
-    go : (b : Bool) → (once s 1 && once s 2 && once s 3 && once s 4) ≡ b → not b ≡ true
-    go false e = refl
-    go true e =
-        let c1 = eqb-true (count s 1) 1 (first-of _ _ (first-of _ _ (first-of _ _ e))) in
-        let c2 = eqb-true (count s 2) 1 (second-of (once s 1) _ (first-of _ _ (first-of _ _ e))) in
-        let c3 = eqb-true (count s 3) 1 (second-of (once s 1 && once s 2) _ (first-of _ _ e)) in
-        let c4 = eqb-true (count s 4) 1 (second-of (once s 1 && once s 2 && once s 3) _ e) in
-        absurd (h (omega (arith, digits s, c1, c2, c3, c4)))
+    of : (a b c : Bool) → P (cond a 1 (cond b 2 (cond c 3 4)))
+    of true b c = f 0 (omega arith)
+    of false true c = f 1 (omega arith)
+    of false false true = f 2 (omega arith)
+    of false false false = f 3 (omega arith)
+
+-- ---- refusals 4 to 6, one after the other
+-- a part of a right chain lies within the record, and its length is its pair's
+module _ (s : List ℕ) (h : refusal4 s ≡ false) (kind : ℕ) where
+  stretch : Stretch s kind (partAt s (pairOfKind s kind))
+  unfolding refusal4 partAt partOfPair
+  stretch = record {
+    inside = pair-in (λ k. pairSum s k ≤ length s) (chain-inside s (not-false (chained Two s 4 20 4) h)) s kind;
+    bytes = refl;
+  }
+
+  part-length : length (partOfKind s kind) ≡ pairLength s (pairOfKind s kind)
+  unfolding partOfPair partAt
+  part-length =
+      let i = stretch .inside in
+      length-take-le _ (drop (pairOffset s (pairOfKind s kind)) s) (rw length-drop (omega arith))
+
+  -- it has bytes where its kind is there
+  module _ {r : Part} (e : r ≡ found s kind) where
+    no-bytes : eqb (r .bytes) 0 ≡ not (present s kind)
+    unfolding found partAt refusal4
+    no-bytes = of (present s kind) e
+      where
+        some : (k : ℕ) → k < 4 → 0 < pairLength s (suc k)
+        some = chain-some s (not-false (chained Two s 4 20 4) h)
+
+        of : (t : Bool) → r ≡ cond t (partAt s (pairOfKind s kind)) (record { start = 0; bytes = 0 }) → eqb (r .bytes) 0 ≡ not t
+        of true q = rw q (ne-eqb _ _ (pair-in (λ k. pairLength s k ≡ 0 → ⊥) (λ k l z. let g = some k l in omega arith) s kind))
+        of false q = rw q
+
+    found-part : eqb (r .bytes) 0 ≡ false → r ≡ partAt s (pairOfKind s kind)
+    unfolding found
+    found-part k = let t : present s kind ≡ true = not-false (present s kind) (sym no-bytes ∙ k) in cc
+
+module _ {s bounds : List ℕ} {b : Bool} (e : Read Two s 4 20 4 (replicate 5 0) bounds b) where
+  pub pairs-broken : not b ≡ true → LayoutRefused 4 ≡ layout (firstHolding 4 (partTests s)) (partsOf s)
+  unfolding refusal4 firstHolding layout
+  pairs-broken h = let w = e .whole in let n = not-true b h in cc
+
+  pub pairs-right : not b ≡ false → refusal4 s ≡ false
+  unfolding refusal4
+  pairs-right h = let w = e .whole in let n = not-false b h in cc
+
+-- the parts that were found for the kinds of a right chain
+pub record Looked (s : List ℕ) (p1 p2 p3 p4 : Part) : Type 0 where
+  pub right : refusal4 s ≡ false
+  pub members : p1 ≡ found s 1
+  pub dowel : p2 ≡ found s 2
+  pub positions : p3 ≡ found s 3
+  pub loads : p4 ≡ found s 4
+
+module _ {s : List ℕ} {p1 p2 p3 p4 : Part} (a : Looked s p1 p2 p3 p4) where
+  abbrev partsAnswer : Layout
+  partsAnswer = layout (firstHolding 4 (partTests s)) (partsOf s)
+
+  abbrev missingOne : Bool
+  missingOne = eqb (p1 .bytes) 0 || eqb (p2 .bytes) 0 || eqb (p3 .bytes) 0 || eqb (p4 .bytes) 0
+
+  five : refusal5 s ≡ missingOne
+  five =
+      let r = a .right in
+      rw (no-bytes s r 1 (a .members), no-bytes s r 2 (a .dowel), no-bytes s r 3 (a .positions), no-bytes s r 4 (a .loads))
+      (kinds-test s (present s 1) (present s 2) (present s 3) (present s 4) refl refl refl refl)
+
+  pub kinds-missing : missingOne ≡ true → LayoutRefused 5 ≡ partsAnswer
+  unfolding firstHolding layout
+  kinds-missing k = simp (a .right, five ∙ k)
+
+  module _ (k : missingOne ≡ false) where
+    abbrev Part-of : Part → ℕ → Type 0
+    Part-of p kind = p ≡ partAt s (pairOfKind s kind)
+
+    are : Part-of p1 1 × Part-of p2 2 × Part-of p3 3 × Part-of p4 4
+    are =
+        let r = a .right in
+        let n = none-of (eqb (p1 .bytes) 0) _ _ _ k in (
+          found-part s r 1 (a .members) (n .0),
+          found-part s r 2 (a .dowel) (n .1),
+          found-part s r 3 (a .positions) (n .2),
+          found-part s r 4 (a .loads) (n .3),
+        )
+
+    pub positions-inside : p3 .start + p3 .bytes ≤ length s
+    positions-inside = rw (are .2) (stretch s (a .right) 3 .inside)
+
+    -- `part` is the stretch of the positions, and q whether its length is right
+    module _ {part : List ℕ} {q : Bool} (f : part ≡ take (p3 .bytes) (drop (p3 .start) s)) (g : q ≡ positionsLength part) where
+      abbrev sized : Bool
+      sized = eqb (p1 .bytes) 42 && eqb (p2 .bytes) 3 && q && eqb (p4 .bytes) 11
+
+      six : refusal6 s ≡ not sized
+      unfolding refusal6 partAt partOfPair
+      six =
+          let r = a .right in
+          rw (g, f, are .0, are .1, are .2, are .3) (simp (part-length s r 1, part-length s r 2, part-length s r 4))
+
+      pub wrong-length : not sized ≡ true → LayoutRefused 6 ≡ partsAnswer
+      unfolding firstHolding layout
+      wrong-length l = simp (a .right, five ∙ k, six ∙ l)
+
+      pub right-lengths : not sized ≡ false → Laid (record { members = p1; dowel = p2; positions = p3; loads = p4 }) ≡ partsAnswer
+      unfolding firstHolding layout partsOf
+      right-lengths l = simp (a .right, five ∙ k, six ∙ l) (simp (are .0, are .1, are .2, are .3))
+
+-- ---- refusals 1 to 6, one after the other
+module _ (s : List ℕ) where
+  abbrev answer : Layout
+  answer = layout (firstHolding 1 (scriptTests s)) (partsOf s)
+
+  pub too-short : length s < 20 → LayoutRefused 1 ≡ answer
+  unfolding refusal1 firstHolding layout
+  too-short l = simp (lt-ltb (length s) 20 l)
+
+  module _ (l : 20 ≤ length s) {n : ℕ} (v : n ≡ version s) where
+    pub wrong-version : (n ≡ 1 → ⊥) → LayoutRefused 2 ≡ answer
+    unfolding refusal1 refusal2 firstHolding layout
+    wrong-version h = simp (le-ltb (length s) 20 l, unequal v h)
+
+    module _ (v1 : n ≡ 1) {m : ℕ} (w : m ≡ pairCount s) where
+      pub wrong-count : (m ≡ 4 → ⊥) → LayoutRefused 3 ≡ answer
+      unfolding refusal1 refusal2 refusal3 firstHolding layout
+      wrong-count h = simp (le-ltb (length s) 20 l, equal v v1, unequal w h)
+
+      pub header-right : m ≡ 4 → layout (firstHolding 4 (partTests s)) (partsOf s) ≡ answer
+      unfolding refusal1 refusal2 refusal3 firstHolding
+      header-right h = simp (le-ltb (length s) 20 l, equal v v1, equal w h)
+
+  -- what is left for the reader of values
+  pub laid-out : {r : Layout} {p : Parts} → r ≡ answer → r ≡ Laid p → LaidOut s p
+  unfolding refusal6 partsOf positionsLength
+  laid-out {r} {p} e h =
+      let n = none-holds 0 (scriptTests s) (laid-number _ _ e h) in
+      let four : refusal4 s ≡ false = n .none 3 in
+      let six : (eqb (length (partOfKind s 1)) 42 && eqb (length (partOfKind s 2)) 3
+      && (leb 2 (length (partOfKind s 3)) && eqb (length (partOfKind s 3)) (2 + 8 * u8At (partOfKind s 3) 1))
+      && eqb (length (partOfKind s 4)) 11) ≡ true =
+      not-false _ (n .none 5) in
+      let t = simp and-eq-true-iff at six in
+      rw (laid-parts _ _ e h)
+      (record {
+        members = stretch s four 1;
+        dowel = stretch s four 2;
+        positions = stretch s four 3;
+        loads = stretch s four 4;
+        members-length = eqb-true _ _ (t .0 .0 .0);
+        dowel-length = eqb-true _ _ (t .0 .0 .1);
+        positions-length = eqb-true _ _ (t .0 .1 .1);
+        loads-length = eqb-true _ _ (t .1);
+      })
+
+-- how many bytes a part has that was lent
+pub part-has : {s a : List ℕ} {kind n : ℕ} {p : Part} → Stretch s kind p → a ≡ take (p .bytes) (drop (p .start) s) → length (partOfKind s kind) ≡ n
+    → length a ≡ n
+part-has h e l = ap length (e ∙ h .bytes) ∙ l
+
+pub positions-have : {s a : List ℕ} {p : Part} → Stretch s 3 p → a ≡ take (p .bytes) (drop (p .start) s)
+    → length (partOfKind s 3) ≡ 2 + 8 * u8At (partOfKind s 3) 1 → length a ≡ 2 + 8 * u8At a 1
+positions-have h e l = rw (e ∙ h .bytes) l
+
+pub values-read : {s : List ℕ} {p : Parts} {a b c d : List ℕ} {m : Members} {w : Dowel} {n : Positions} {l : Loads} → LaidOut s p
+    → a ≡ take (p .members .bytes) (drop (p .members .start) s) → m ≡ membersIn a
+    → b ≡ take (p .dowel .bytes) (drop (p .dowel .start) s) → w ≡ dowelIn b
+    → c ≡ take (p .positions .bytes) (drop (p .positions .start) s) → n ≡ positionsIn c
+    → d ≡ take (p .loads .bytes) (drop (p .loads .start) s) → l ≡ loadsIn d
+    → record { members = m; dowel = w; positions = n; loads = l } ≡ valuesOf s
+unfolding valuesOf
+values-read o a m b w c n d l = cc
 
 -- ---- refusals 7 to 9, one after the other
-module _ (v : Values) {f : Bool} (e : f ≡ fieldsWithin v) where
-  pub values-outside : not f ≡ true → Refused 7 ≡ stage (firstFrom 7 (valueTests v))
-  unfolding firstFrom stage
-  values-outside h = simp (failed e h)
+module _ (v : Values) where
+  abbrev tested : Stage
+  tested = stage (firstHolding 7 (valueTests v))
 
-  module _ (h : not f ≡ false) {o : Bool} (q : o ≡ emptyOutlines (v .members)) where
-    pub values-empty : o ≡ true → Refused 8 ≡ stage (firstFrom 7 (valueTests v))
-    unfolding firstFrom stage
-    values-empty g = simp (held e h, sym q ∙ g)
+  pub fields-test : {p m n d s q l : Bool} → p ≡ between 1 2 (v .members .planes) → m ≡ memberWithin (v .members .member1)
+      → n ≡ memberWithin (v .members .member2) → d ≡ between 6 30 (v .dowel .diameter) → s ≡ between 1 3 (v .dowel .steel)
+      → q ≡ positionsWithin (v .positions) → l ≡ loadsWithin (v .loads)
+      → not (p && m && n && (d && s) && q && l) ≡ not (fieldsWithin v)
+  unfolding membersWithin dowelWithin fieldsWithin
+  fields-test p m n d s q l = simp (p, m, n, d, s, q, l)
 
-    module _ (g : o ≡ false) {n : Bool} (p : n ≡ noForce (v .loads)) where
-      pub values-unloaded : n ≡ true → Refused 9 ≡ stage (firstFrom 7 (valueTests v))
-      unfolding firstFrom stage
-      values-unloaded k = simp (held e h, sym q ∙ g, sym p ∙ k)
+  pub values-outside : {f : Bool} → f ≡ true → f ≡ not (fieldsWithin v) → Refused 7 ≡ tested
+  unfolding firstHolding stage
+  values-outside h e = simp (← e, h)
 
-      pub values-right : n ≡ false → Passed ≡ stage (firstFrom 7 (valueTests v))
-      unfolding firstFrom stage
-      values-right k = simp (held e h, sym q ∙ g, sym p ∙ k)
+  module _ {f : Bool} (h : f ≡ false) (e : f ≡ not (fieldsWithin v)) {a b : Bool} (p : a ≡ outlineEmpty (v .members .member1 .outline))
+      (q : b ≡ outlineEmpty (v .members .member2 .outline)) where
+    pub values-empty : (a || b) ≡ true → Refused 8 ≡ tested
+    unfolding firstHolding stage emptyOutlines
+    values-empty g = simp (← e, h, ← p, ← q, g)
 
--- ---- the number of refusals 1 to 9, by what the two stages of reading answered
-module _ (s : List ℕ) {l : Stage} (e : l ≡ stage (firstFrom 1 (scriptTests s))) where
-  pub number-layout : (m : ℕ) → l ≡ Refused m → l ≡ stage (refusalNumber s)
-  unfolding refusalNumber
-  number-layout m h = stage-stop 0 m (scriptTests s) (designerTests s) e h
+    module _ (g : (a || b) ≡ false) (x : SFits w32 (v .loads .fx)) (y : SFits w32 (v .loads .fy)) where
+      abbrev unloaded : Bool
+      unloaded = eqb (ofZ w32 (v .loads .fx)) 0 && eqb (ofZ w32 (v .loads .fy)) 0
 
-  pub number-values : {r : Stage} → l ≡ Passed → r ≡ stage (firstFrom 7 (valueTests (valuesOf s))) → r ≡ stage (refusalNumber s)
-  unfolding refusalNumber
-  number-values h q = q ∙ sym (stage-on 0 7 (scriptTests s) (designerTests s) (sym e ∙ h) refl)
+      last-test : unloaded ≡ noForce (v .loads)
+      unfolding noForce
+      last-test = simp (zero-bits (v .loads .fx) x, zero-bits (v .loads .fy) y)
+
+      pub values-unloaded : unloaded ≡ true → Refused 9 ≡ tested
+      unfolding firstHolding stage emptyOutlines
+      values-unloaded k = simp (← e, h, ← p, ← q, g, ← last-test, k)
+
+      pub values-right : unloaded ≡ false → Passed ≡ tested
+      unfolding firstHolding stage emptyOutlines
+      values-right k = simp (← e, h, ← p, ← q, g, ← last-test, k)

@@ -15,7 +15,7 @@ use Rattle.strength.specs.Tables.{densityOf, steelOf, kmodOf}
 use Rattle.strength.proofs.Falling.{falls}
 use Rattle.spacing.specs.declared.verdict.Fault.{Fault}
 use Rattle.spacing.specs.Spacing.{alongEnough, endPasses}
-use Rattle.spacing.specs.Search.{firstFrom as firstIndex, partner, firstPair}
+use Rattle.spacing.specs.Search.{firstFrom, partner, firstPair}
 use Rattle.spacing.specs.Verdict.{fault, pairFault, endFault, edgeFault, verdictIn, memberVerdict, spacingVerdict}
 use Rattle.group.specs.Rows.{countTo, rowNumber, IsRow, NotAbove, NotBelow, SomeRowAbove, shareOver}
 use Rattle.group.specs.Rows.NotBelow.{several}
@@ -25,10 +25,11 @@ use Rattle.group.proofs.RowLaws.{own-row, near, near-least, least-near, least-d
 use Rattle.joint.specs.declared.Positions.{Positions}
 use Rattle.joint.specs.declared.Values.{Values}
 use Rattle.joint.specs.declared.report.Report.{Report}
+use Rattle.chain.specs.Chain.{numberAt, bound, allFollow, chained}
 use Rattle.joint.specs.Layout.{partOfPair, pairOfKind, outlineAt, memberAt, membersIn, dowelIn, column, positionsIn, loadsIn, valuesOf}
-use Rattle.joint.specs.Refusal.{refusal1, refusal2, refusal3, pairFrom, refusal4, oneIf, once, refusal5, positionsLength, refusal6, knownClass}
+use Rattle.joint.specs.Refusal.{refusal1, refusal2, refusal3, refusal4, oneIf, once, refusal5, positionsLength, refusal6, knownClass}
 use Rattle.joint.specs.Refusal.{outlineWithin, memberWithin, membersWithin, dowelWithin, coordinates, positionsWithin, loadsWithin}
-use Rattle.joint.specs.Refusal.{fieldsWithin, outlineEmpty, emptyOutlines, noForce, firstFrom, refusalNumber, drillFault, refusalOf}
+use Rattle.joint.specs.Refusal.{fieldsWithin, outlineEmpty, emptyOutlines, noForce, firstHolding, refusalNumber, drillFault, refusalOf}
 use Rattle.joint.specs.Design.{Design}
 use Rattle.joint.specs.DesignOf.{planeIn, planeOf, designOf}
 use Rattle.joint.specs.Use.{Above0, planeForce, rowForce, Enough, CapacityBracket, ShareBracket, UseBracket, Answered}
@@ -51,11 +52,11 @@ refusals =
     ∷ fault 10 1 1 2 ∷ []
 
 refused-as : map (λ (s : Starred). refusalOf (s .bytes)) starred ≡ refusals
-unfolding refusalOf refusalNumber firstFrom refusal1 refusal2 refusal3 pairFrom refusal4 oneIf once refusal5 positionsLength
+unfolding refusalOf refusalNumber firstHolding refusal1 refusal2 refusal3 numberAt bound allFollow chained refusal4 oneIf once refusal5 positionsLength
     refusal6 coordinate force knownClass outlineWithin memberWithin membersWithin dowelWithin coordinates positionsWithin
     loadsWithin fieldsWithin outlineEmpty emptyOutlines noForce drillFault twosComplement i32At partOfPair pairOfKind
     outlineAt memberAt membersIn dowelIn column positionsIn loadsIn valuesOf pairFault endFault edgeFault verdictIn
-    memberVerdict spacingVerdict alongEnough endPasses firstIndex partner firstPair
+    memberVerdict spacingVerdict alongEnough endPasses firstFrom partner firstPair
 refused-as = refl
 
 abbrev fourDowels : Positions

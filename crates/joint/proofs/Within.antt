@@ -101,8 +101,8 @@ module _ (v : Values) (f : FieldsHold v) (g : Components (v .dowel .diameter) (v
   plane-within =
       let t = steel-tested (v .dowel .steel) (f .steel-low) (f .steel-high) in
       record {
-        side = member-within (v .members .member1) (f .member1);
-        other = member-within (v .members .member2) (f .member2);
+        member1 = member-within (v .members .member1) (f .member1);
+        member2 = member-within (v .members .member2) (f .member2);
         dowel = record {
           diameter-low = f .diameter-low;
           diameter-high = f .diameter-high;

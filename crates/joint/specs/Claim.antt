@@ -1,9 +1,7 @@
 -- The top claim: what a report says of the bytes handed in (01, 'Rows, share and use', last paragraph; demands 1, 2 and 3).
 use Prim.Native.Nat.{ℕ}
 use mathlib.Core.Path.{_≡_}
-use mathlib.Core.Bool.{Bool, true, false}
 use mathlib.Core.List.{List}
-use lib.ListN.{take}
 use Rattle.joint.specs.declared.report.Verdict.the-variants.{Refused}
 use Rattle.joint.specs.declared.report.Report.{Report}
 use Rattle.joint.specs.Layout.{valuesOf}
@@ -36,16 +34,3 @@ pub record Judged (bytes : List ℕ) (r : Report) : Type 0 where
 pub record Reported (bytes : List ℕ) (r : Report) : Type 0 where
   pub claim : Judged bytes r
   pub is : r ≡ reportOf bytes
-
--- 'The program reads standard input up to 4,096 bytes (more prints as refusal 4, before any other test)': what is said of the first
--- `count` bytes of a buffer, and whether more came
-pub record TooLong (r : Report) : Type 0 where
-  pub number : r .number ≡ 4
-  pub member : r .member ≡ 0
-  pub first : r .first ≡ 0
-  pub second : r .second ≡ 0
-  pub figures : Unanswered r
-
-abbrev pub InputJudged : List ℕ → ℕ → Bool → Report → Type 0
-InputJudged buffer count true r = TooLong r
-InputJudged buffer count false r = Judged (take count buffer) r

@@ -6,9 +6,9 @@ use mathlib.Core.Logic.{_⊎_}
 use Rattle.strength.specs.Fraction.{Fraction}
 use Rattle.strength.specs.declared.plane.Plane.{Plane}
 
--- A member that takes part: c, the size of the whole force's component along it, and 'n and a1 are those of a row of it', where a row of
--- one dowel stands with n = 1 and every a1.
-pub record Part : Type 1 where
+-- A member that carries a part of the force: c, the size of the whole force's component along it, and 'n and a1 are those of a row of it',
+-- where a row of one dowel stands with n = 1 and every a1.
+pub record Carrier : Type 1 where
   pub along : ℕ
   pub row : ℕ → ℕ → Type 0
 
@@ -19,13 +19,13 @@ pub record Design : Type 1 where
   pub squaredForce : ℕ
   pub counted : Fraction
   pub kmod : ℕ
-  pub members : List Part
+  pub members : List Carrier
 
 -- for each member, for some member
-abbrev pub Each : (Part → Type 0) → List Part → Type 0
+abbrev pub Each : (Carrier → Type 0) → List Carrier → Type 0
 Each P [] = Unit {0}
 Each P (m ∷ ms) = P m × Each P ms
 
-abbrev pub Some : (Part → Type 0) → List Part → Type 0
+abbrev pub Some : (Carrier → Type 0) → List Carrier → Type 0
 Some P [] = ⊥
 Some P (m ∷ ms) = P m ⊎ Some P ms

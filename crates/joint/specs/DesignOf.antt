@@ -8,7 +8,7 @@ use Rattle.strength.specs.Fraction.{Fraction, _over_, whole}
 use Rattle.strength.specs.Tables.{densityOf, steelOf, kmodOf, k90Of}
 use Rattle.strength.specs.declared.tables.Listed.{Listed}
 use Rattle.strength.specs.declared.tables.Listed.the-variants.{Value, Unlisted}
-use Rattle.strength.specs.declared.plane.Member as strengthMember
+use Rattle.strength.specs.declared.plane.Timber.{Timber}
 use Rattle.strength.specs.declared.plane.Plane.{Plane}
 use Rattle.spacing.specs.Spacing.{along, across, squaredForce}
 use Rattle.group.specs.Rows.{IsRow}
@@ -17,7 +17,7 @@ use Rattle.joint.specs.declared.Members.{Members}
 use Rattle.joint.specs.declared.Dowel.{Dowel}
 use Rattle.joint.specs.declared.Loads.{Loads}
 use Rattle.joint.specs.declared.Values.{Values}
-use Rattle.joint.specs.Design.{Part, Design}
+use Rattle.joint.specs.Design.{Carrier, Design}
 
 -- what a table has at a code; every code of an accepted record is listed
 abbrev pub listed : Listed → ℕ
@@ -30,7 +30,7 @@ forceAlong l m = natAbs (along (m .grain) (l .fx) (l .fy))
 
 -- ---- Strength of a shear plane
 -- a member in a shear plane: cos²α is the squared component along over fx² + fy²
-abbrev pub planeMember : ℕ → Member → ℕ → ℕ → strengthMember.Member
+abbrev pub planeMember : ℕ → Member → ℕ → ℕ → Timber
 planeMember d m c total = record {
   density = listed (densityOf (m .class));
   k90 = k90Of d;
@@ -41,8 +41,8 @@ planeMember d m c total = record {
 
 unfoldable pub planeIn : Members → Dowel → ℕ → ℕ → ℕ → Plane
 planeIn m w total c1 c2 = record {
-  side = planeMember (w .diameter) (m .member1) c1 total;
-  other = planeMember (w .diameter) (m .member2) c2 total;
+  member1 = planeMember (w .diameter) (m .member1) c1 total;
+  member2 = planeMember (w .diameter) (m .member2) c2 total;
   diameter = w .diameter;
   steel = listed (steelOf (w .steel));
   planes = m .planes;
@@ -62,8 +62,8 @@ abbrev pub countedPlanes : ℕ → ℕ → Fraction
 countedPlanes n p = cond (eqb n 1) (p over 2) (whole (n * p))
 
 -- a member's force along the grain, and its rows
-abbrev pub partOf : Values → Member → Part
-partOf v m = record {
+abbrev pub carrierOf : Values → Member → Carrier
+carrierOf v m = record {
   along = forceAlong (v .loads) m;
   row =
       IsRow (along (m .grain) (v .positions .x) (v .positions .y)) (across (m .grain) (v .positions .x) (v .positions .y))
@@ -77,5 +77,5 @@ designOf v = record {
   squaredForce = squaredForce (v .loads .fx) (v .loads .fy);
   counted = countedPlanes (v .positions .n) (v .members .planes);
   kmod = kmodIn (v .loads);
-  members = partOf v (v .members .member1) ∷ partOf v (v .members .member2) ∷ [];
+  members = carrierOf v (v .members .member1) ∷ carrierOf v (v .members .member2) ∷ [];
 }

@@ -8,7 +8,9 @@ use lib.IntN.{ℤ, pos, natAbs}
 use lib.Signed.{leZ}
 use lib.Dec.{ltb, leb, eqb}
 use Rattle.numbers.specs.Numbers.{u8At, coordinate, force}
-use Rattle.joint.specs.Layout.{version, pairCount, pairOffset, pairLength, pairSum, kindOfPair, partOfKind, valuesOf}
+use Rattle.chain.specs.Chain.{chained}
+use Rattle.chain.specs.declared.Width.the-variants.{Two}
+use Rattle.joint.specs.Layout.{version, pairCount, kindOfPair, partOfKind, valuesOf}
 use Rattle.joint.specs.declared.Outline.{Outline}
 use Rattle.joint.specs.declared.Member.{Member}
 use Rattle.joint.specs.declared.Members.{Members}
@@ -38,16 +40,10 @@ refusal2 s = not (eqb (version s) 1)
 unfoldable pub refusal3 : List ℕ → Bool
 refusal3 s = not (eqb (pairCount s) 4)
 
--- '4 pairs against the rule': 'The first offset is 20, each next is the sum of the pair before, the last sum is the record's
--- length. No length is 0.' The pairs are sorted by offset where this holds.
-unfoldable pub pairFrom : List ℕ → ℕ → ℕ → Bool
-pairFrom s k start = eqb (pairOffset s k) start && not (eqb (pairLength s k) 0)
-
+-- '4 pairs against the rule': 'four pairs of u16', the first at byte 4; 'The first offset is 20, each next is the sum of the pair before,
+-- the last sum is the record's length. No length is 0.'
 unfoldable pub refusal4 : List ℕ → Bool
-refusal4 s =
-    not
-    (pairFrom s 1 20 && pairFrom s 2 (pairSum s 1) && pairFrom s 3 (pairSum s 2) && pairFrom s 4 (pairSum s 3)
-    && eqb (pairSum s 4) (length s))
+refusal4 s = not (chained Two s 4 20 4)
 
 -- '5 kinds not once each': a kind other than 1 to 4 leaves one of these without its part
 unfoldable pub oneIf : Bool → ℕ
@@ -195,13 +191,13 @@ drillTests s =
     refusal10 1 s ∷ refusal11 1 s ∷ refusal12 1 s ∷ refusal10 2 s ∷ refusal11 2 s ∷ refusal12 2 s ∷ []
 
 -- the number of the first test that holds, the first of them having the number k; 0 where none does
-unfoldable pub firstFrom : ℕ → List Bool → ℕ
-firstFrom k [] = 0
-firstFrom k (true ∷ tests) = k
-firstFrom k (false ∷ tests) = firstFrom (suc k) tests
+unfoldable pub firstHolding : ℕ → List Bool → ℕ
+firstHolding k [] = 0
+firstHolding k (true ∷ tests) = k
+firstHolding k (false ∷ tests) = firstHolding (suc k) tests
 
 unfoldable pub refusalNumber : List ℕ → ℕ
-refusalNumber s = firstFrom 1 (scriptTests s ++ designerTests s)
+refusalNumber s = firstHolding 1 (scriptTests s ++ designerTests s)
 
 -- the first fault of the drill plan, or all 0
 unfoldable pub drillFault : Values → Fault

@@ -2,14 +2,12 @@
 use Prim.Native.Nat.{ℕ, _+_, _*_, _-_, _/_, _%_, _≤_, max, min}
 use mathlib.Core.Path.{_≡_}
 use mathlib.Core.List.{List}
-use mathlib.Core.Bool.{Bool, cond}
+use mathlib.Core.Bool.{cond}
 use lib.Dec.{eqb}
-use lib.ListN.{take}
 use Rattle.strength.specs.Working.{squareRootOf, capacityOf}
 use Rattle.strength.specs.Shear.{PlaneWithin}
 use Rattle.spacing.specs.declared.verdict.Fault.{Fault}
 use Rattle.spacing.specs.Spacing.{along, across, squaredForce, Components, Given}
-use Rattle.spacing.specs.Verdict.{fault}
 use Rattle.group.specs.declared.member.Taken.{Taken}
 use Rattle.group.specs.declared.member.Both.{Both}
 use Rattle.group.specs.Share.{memberShare}
@@ -169,7 +167,3 @@ pub record Passed (v : Values) : Type 0 where
   pub fields : FieldsHold v
   pub given : Given (v .dowel .diameter) (v .loads .fx) (v .loads .fy) (v .positions .n)
   pub drill : drillFault v .number ≡ 0
-
--- the program's rule
-unfoldable pub inputReport : List ℕ → ℕ → Bool → Report
-inputReport buffer count more = cond more (unanswered (fault 4 0 0 0)) (reportOf (take count buffer))

@@ -3,54 +3,86 @@
 use Prim.Native.Nat.{ℕ, zero, suc, _+_, _*_, _≤_, _<_}
 use mathlib.Core.Path.{_≡_}
 use mathlib.Core.List.{List, [], _∷_}
-use mathlib.Core.Bool.{Bool, cond, not}
+use mathlib.Core.Bool.{Bool, cond, not, _||_}
 use lib.Dec.{eqb}
-use lib.ListN.{length}
+use lib.ListN.{length, getD, take, drop}
 use Rattle.numbers.specs.Numbers.{u8At}
-use Rattle.joint.specs.Layout.{pairLength, pairSum, partOfKind}
-use Rattle.joint.specs.Refusal.{refusal1, refusal2, refusal3, oneIf, pairFrom, fieldsWithin, emptyOutlines, noForce}
-use Rattle.joint.specs.declared.Pair.{Pair}
-use Rattle.joint.specs.declared.Pair.the-variants.{End, Broken}
+use Rattle.joint.specs.Layout.{pairOffset, pairLength, pairSum, kindOfPair, pairOfKind, partOfKind}
+use Rattle.joint.specs.Refusal.{refusal4, refusal5, refusal6, fieldsWithin, emptyOutlines, noForce}
 use Rattle.joint.specs.declared.Values.{Values}
 use Rattle.joint.specs.declared.Stage.{Stage}
 use Rattle.joint.specs.declared.Stage.the-variants.{Passed, Refused}
+use Rattle.joint.specs.declared.layout.Part.{Part}
+use Rattle.joint.specs.declared.layout.Parts.{Parts}
+use Rattle.joint.specs.declared.layout.Layout.{Layout}
+use Rattle.joint.specs.declared.layout.Layout.the-variants.{Laid, Refused as LayoutRefused}
 
--- a refusal's number as a stage's answer: 0 is `Passed`
+-- ---- refusals 1 to 6
+-- what a right chain says of its four parts: they are not empty and lie within the record, between bounds k and k + 1
+pub record Bounded (s bounds : List ℕ) : Type 0 where
+  pub start : (k : ℕ) → k < 4 → getD bounds k 0 ≡ pairOffset s (suc k)
+  pub end : (k : ℕ) → k < 4 → getD bounds (suc k) 0 ≡ pairSum s (suc k)
+  pub some : (k : ℕ) → k < 4 → 0 < pairLength s (suc k)
+  pub inside : (k : ℕ) → k < 4 → pairSum s (suc k) ≤ length s
+
+-- some part is of the kind
+unfoldable pub present : List ℕ → ℕ → Bool
+present s kind =
+    eqb (kindOfPair s 1) kind || eqb (kindOfPair s 2) kind || eqb (kindOfPair s 3) kind || eqb (kindOfPair s 4) kind
+
+unfoldable pub partAt : List ℕ → ℕ → Part
+partAt s k = record { start = pairOffset s k; bytes = pairLength s k }
+
+-- the part of a kind; without bytes where there is none
+unfoldable pub found : List ℕ → ℕ → Part
+found s kind = cond (present s kind) (partAt s (pairOfKind s kind)) (record { start = 0; bytes = 0 })
+
+-- the tests that need more than the header
+abbrev pub partTests : List ℕ → List Bool
+partTests s = refusal4 s ∷ refusal5 s ∷ refusal6 s ∷ []
+
+unfoldable pub partsOf : List ℕ → Parts
+partsOf s = record {
+  members = partAt s (pairOfKind s 1);
+  dowel = partAt s (pairOfKind s 2);
+  positions = partAt s (pairOfKind s 3);
+  loads = partAt s (pairOfKind s 4);
+}
+
+-- a refusal's number as an answer: 0 is the parts; and back
+unfoldable pub layout : ℕ → Parts → Layout
+layout zero p = Laid p
+layout (suc k) p = LayoutRefused (suc k)
+
+unfoldable pub layoutNumber : Layout → ℕ
+layoutNumber (Laid p) = 0
+layoutNumber (LayoutRefused k) = k
+
+-- what refusals 1 to 6 leave: a part lies within the record, where its pair says, and has its kind's length
+pub record Stretch (s : List ℕ) (kind : ℕ) (p : Part) : Type 0 where
+  pub inside : p .start + p .bytes ≤ length s
+  pub bytes : take (p .bytes) (drop (p .start) s) ≡ partOfKind s kind
+
+pub record LaidOut (s : List ℕ) (p : Parts) : Type 0 where
+  pub members : Stretch s 1 (p .members)
+  pub dowel : Stretch s 2 (p .dowel)
+  pub positions : Stretch s 3 (p .positions)
+  pub loads : Stretch s 4 (p .loads)
+  pub members-length : length (partOfKind s 1) ≡ 42
+  pub dowel-length : length (partOfKind s 2) ≡ 3
+  pub positions-length : length (partOfKind s 3) ≡ 2 + 8 * u8At (partOfKind s 3) 1
+  pub loads-length : length (partOfKind s 4) ≡ 11
+
+-- ---- refusals 7 to 9
+-- a refusal's number as an answer: 0 is `Passed`; and back
 unfoldable pub stage : ℕ → Stage
 stage zero = Passed
 stage (suc k) = Refused (suc k)
 
--- and back
 unfoldable pub stageNumber : Stage → ℕ
 stageNumber Passed = 0
 stageNumber (Refused k) = k
 
--- the tests that need the header only
-abbrev pub headerTests : List ℕ → List Bool
-headerTests s = refusal1 s ∷ refusal2 s ∷ refusal3 s ∷ []
-
 -- the tests of values, for whoever has values and no record
 abbrev pub valueTests : Values → List Bool
 valueTests v = not (fieldsWithin v) ∷ emptyOutlines (v .members) ∷ noForce (v .loads) ∷ []
-
--- a pair that starts where the one before ends, and has bytes: where it ends
-unfoldable pub pairStage : List ℕ → ℕ → ℕ → Pair
-pairStage s k start = cond (pairFrom s k start) (End (pairSum s k)) Broken
-
--- a kind as a digit to the base 5
-unfoldable pub weightOf : ℕ → ℕ
-weightOf kind =
-    oneIf (eqb kind 1) + 5 * oneIf (eqb kind 2) + 25 * oneIf (eqb kind 3) + 125 * oneIf (eqb kind 4)
-
--- what refusals 1 to 4 leave: pairs 1 to 4 are there and name stretches of the record
-pub record Chained (s : List ℕ) : Type 0 where
-  pub long : 20 ≤ length s
-  pub inside : (k : ℕ) → 1 ≤ k → k ≤ 4 → pairSum s k ≤ length s
-  pub filled : (k : ℕ) → 1 ≤ k → k ≤ 4 → 0 < pairLength s k
-
--- what refusal 6 leaves
-pub record Sized (s : List ℕ) : Type 0 where
-  pub members : length (partOfKind s 1) ≡ 42
-  pub dowel : length (partOfKind s 2) ≡ 3
-  pub positions : length (partOfKind s 3) ≡ 2 + 8 * u8At (partOfKind s 3) 1
-  pub loads : length (partOfKind s 4) ≡ 11

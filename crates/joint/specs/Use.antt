@@ -10,7 +10,7 @@ use Rattle.group.specs.Rows.{NotBelow, EveryRow, SomeRowAbove}
 use Rattle.joint.specs.declared.report.Verdict.{Verdict}
 use Rattle.joint.specs.declared.report.Verdict.the-variants.{Fits, Overloaded}
 use Rattle.joint.specs.declared.report.Report.{Report}
-use Rattle.joint.specs.Design.{Part, Design, Each, Some}
+use Rattle.joint.specs.Design.{Carrier, Design, Each, Some}
 
 -- above 0
 pub record Above0 (u : Fraction) : Type 0 where
@@ -26,7 +26,7 @@ abbrev pub rowForce : ℕ → ℕ → Fraction → Fraction → ℕ → Fraction
 rowForce c n e T h v = whole 130 ⊗ whole c ⊗ whole n ⊘ (e ⊗ T ⊗ whole h ⊗ v)
 
 -- 'for each .. row .. and every e > 0 not below the effective number, 130 c n/(e T h v) ≤ R'
-abbrev pub RowsEnough : Design → Fraction → Part → Type 0
+abbrev pub RowsEnough : Design → Fraction → Carrier → Type 0
 RowsEnough j v m =
     (n a1 : ℕ) → m .row n a1 → (e : Fraction) → Above0 e → NotBelow (j .diameter) n a1 e
     → AtMostR (j .plane) (rowForce (m .along) n e (j .counted) (j .kmod) v)

@@ -62,11 +62,11 @@ fn taken_of(members: Members, dowel: Dowel, loads: Loads, positions: Positions) 
 }
 
 // A member in the shear plane.
-fn plane_member(diameter: u8, m: Member, along: u64, total: u64) -> plane::Member
+fn plane_member(diameter: u8, m: Member, along: u64, total: u64) -> plane::Timber
     requires { ⌜ along ≤ 1000000 ⌝ }
     ensures { λ r. ⌜ r ≡ planeMember diameter m along total ⌝ }
 {
-    plane::Member {
+    plane::Timber {
         density: listed(tables::density(m.class)),
         k90: tables::k90_softwood(diameter),
         along: along * along,
@@ -81,14 +81,14 @@ fn capacity_of(members: Members, dowel: Dowel, total: u64, along1: u64, along2: 
     requires { ⌜ (along1 ≤ 1000000) × (along2 ≤ 1000000) ⌝ }
     ensures { λ r. ⌜ r ≡ capacityOf (planeIn members dowel total along1 along2) ⌝ }
 {
-    let member1 = members.member1;
-    let member2 = members.member2;
-    let side = plane_member(dowel.diameter, member1, along1, total);
-    let other = plane_member(dowel.diameter, member2, along2, total);
+    let first = members.member1;
+    let second = members.member2;
+    let member1 = plane_member(dowel.diameter, first, along1, total);
+    let member2 = plane_member(dowel.diameter, second, along2, total);
     let steel = listed(tables::steel_strength(dowel.steel));
     capacity::capacity_thousandths(plane::Plane {
-        side,
-        other,
+        member1,
+        member2,
         diameter: dowel.diameter as u64,
         steel,
         planes: members.planes as u64,

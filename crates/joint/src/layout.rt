@@ -1,198 +1,164 @@
 // The record's header, pairs, kinds and lengths: refusals 1 to 6.
-use crate::Pair;
-use crate::Stage;
+use chain::Width;
 use numbers::u16_at;
 ghost use mathlib.Core.Path.{_≡_};
-ghost use mathlib.Core.List.{[], _∷_};
-ghost use Prim.Native.Nat.{_+_, _≤_, _<_};
-ghost use lib.ListN.{length};
-ghost use Rattle.joint.specs.Layout.{partOfPair, kindOfPair, pairOfKind, partOfKind};
-ghost use Rattle.joint.specs.Refusal.{refusal4, refusal5, refusal6, positionsLength, firstFrom, scriptTests};
-ghost use Rattle.joint.specs.Stage.{stage, headerTests, pairStage, weightOf, Chained};
+ghost use Prim.Native.Nat.{_+_, _≤_};
+ghost use lib.ListN.{length, take, drop};
+ghost use Rattle.joint.specs.Refusal.{positionsLength, firstHolding, scriptTests};
+ghost use Rattle.joint.specs.Stage.{Bounded, found, partTests, partsOf, layout, layoutNumber};
 
-// Version, number of pairs and four pairs.
+// The version, where it stands and where the number of pairs does.
+const VERSION: u16 = 1;
+
+const VERSION_AT: usize = 0;
+
+const COUNT_AT: usize = 2;
+
+// How many pairs there are, where the first one stands and where the first part starts: right after the last pair.
+const PAIRS: usize = 4;
+
+const FIRST_PAIR: usize = 4;
+
 const HEADER_BYTES: usize = 20;
 
-// Refusals 1 to 3.
-fn check_header(bytes: &[u8]) -> Stage
-    ensures { λ r. ⌜ r ≡ stage (firstFrom 1 (headerTests (now (bytes .entry)))) ⌝ }
-{
-    if bytes.len() < HEADER_BYTES {
-        return Stage::Refused(1);
-    }
-    let version = u16_at(bytes, 0);
-    if version != 1 {
-        return Stage::Refused(2);
-    }
-    let count = u16_at(bytes, 2);
-    if count != 4 {
-        return Stage::Refused(3);
-    }
-    Stage::Passed
+// The kinds of parts, and the bytes of those that have one length only.
+const MEMBERS: u8 = 1;
+
+const DOWEL: u8 = 2;
+
+const POSITIONS: u8 = 3;
+
+const LOADS: u8 = 4;
+
+const MEMBERS_BYTES: usize = 42;
+
+const DOWEL_BYTES: usize = 3;
+
+const LOADS_BYTES: usize = 11;
+
+// Kind and N, and then x and y of each dowel.
+const POSITIONS_FRONT: usize = 2;
+
+pub(crate) const POSITION_BYTES: usize = 8;
+
+// The first byte of a part, and how many it has.
+pub(crate) struct Part {
+    pub start: usize,
+    pub bytes: usize,
 }
 
-// Pair k, which has to start at `start` and to have bytes: where it ends.
-fn read_pair(bytes: &[u8], k: usize, start: usize) -> Pair
-    requires { ⌜ (k ≤ 4) × (20 ≤ length (now bytes)) ⌝ }
-    ensures { λ r. ⌜ r ≡ pairStage (now (bytes .entry)) k start ⌝ }
-{
-    let offset = u16_at(bytes, 4 * k) as usize;
-    let length = u16_at(bytes, 4 * k + 2) as usize;
-    if offset != start {
-        return Pair::Broken;
-    }
-    if length == 0 {
-        return Pair::Broken;
-    }
-    Pair::End(offset + length)
+pub(crate) struct Parts {
+    pub members: Part,
+    pub dowel: Part,
+    pub positions: Part,
+    pub loads: Part,
 }
 
-// Refusal 4.
-fn check_pairs(bytes: &[u8]) -> Stage
-    requires { ⌜ 20 ≤ length (now bytes) ⌝ }
-    ensures { λ r. ⌜ r ≡ stage (firstFrom 4 (refusal4 (now (bytes .entry)) ∷ [])) ⌝ }
-{
-    let first = read_pair(bytes, 1, HEADER_BYTES);
-    let Pair::End(second_start) = first else {
-        return Stage::Refused(4);
-    };
-    let second = read_pair(bytes, 2, second_start);
-    let Pair::End(third_start) = second else {
-        return Stage::Refused(4);
-    };
-    let third = read_pair(bytes, 3, third_start);
-    let Pair::End(fourth_start) = third else {
-        return Stage::Refused(4);
-    };
-    let fourth = read_pair(bytes, 4, fourth_start);
-    let Pair::End(end) = fourth else {
-        return Stage::Refused(4);
-    };
-    if end != bytes.len() {
-        return Stage::Refused(4);
-    }
-    Stage::Passed
+// What reading the layout finds: the parts, or a refusal's number.
+pub(crate) enum Layout {
+    Laid(Parts),
+    Refused(u8),
 }
 
-// The part that pair k names.
-fn part_of_pair(bytes: &[u8], k: usize) -> &[u8]
-    requires { ⌜ Chained (now bytes) × ((1 ≤ k) × (k ≤ 4)) ⌝ }
-    ensures { λ r. ⌜ now r ≡ partOfPair (now (bytes .entry)) k ⌝ }
+pub(crate) fn layout_number(layout: Layout) -> u8
+    ensures { λ r. ⌜ r ≡ layoutNumber layout ⌝ }
 {
-    let start = u16_at(bytes, 4 * k) as usize;
-    let end = start + (u16_at(bytes, 4 * k + 2) as usize);
+    match layout {
+        Layout::Laid(_) => 0,
+        Layout::Refused(k) => k,
+    }
+}
+
+// The stretch of the lent record that a part's pair names.
+pub(crate) fn stretch(bytes: &[u8], part: Part) -> &[u8]
+    requires { ⌜ part .start + part .bytes ≤ length (now bytes) ⌝ }
+    ensures { λ r. ⌜ now r ≡ take (part .bytes) (drop (part .start) (now (bytes .entry))) ⌝ }
+{
+    let start = part.start;
+    let end = start + part.bytes;
     &bytes[start..end]
 }
 
-fn kind_of_pair(bytes: &[u8], k: usize) -> u8
-    requires { ⌜ Chained (now bytes) × ((1 ≤ k) × (k ≤ 4)) ⌝ }
-    ensures { λ r. ⌜ r ≡ kindOfPair (now (bytes .entry)) k ⌝ }
+// The first part of a kind, by the bounds of the parts; without bytes where there is none.
+fn find_part(bytes: &[u8], bounds: [usize; PAIRS + 1], kind: u8) -> Part
+    requires { ⌜ Bounded (now bytes) bounds ⌝ }
+    ensures { λ r. ⌜ r ≡ found (now (bytes .entry)) kind ⌝ }
 {
-    let part = part_of_pair(bytes, k);
-    part[0]
-}
-
-// Digits to the base 5, one a kind: four parts make 1111 only where each kind is there once.
-fn weight(kind: u8) -> u16
-    ensures { λ r. ⌜ r ≡ weightOf kind ⌝ }
-{
-    match kind {
-        1 => 1,
-        2 => 5,
-        3 => 25,
-        4 => 125,
-        _ => 0,
+    let mut k = 0;
+    while k < PAIRS {
+        let start = bounds[k];
+        if bytes[start] == kind {
+            return Part {
+                start,
+                bytes: bounds[k + 1] - start,
+            };
+        }
+        k += 1;
     }
-}
-
-// Refusal 5.
-fn check_kinds(bytes: &[u8]) -> Stage
-    requires { ⌜ Chained (now bytes) ⌝ }
-    ensures { λ r. ⌜ r ≡ stage (firstFrom 5 (refusal5 (now (bytes .entry)) ∷ [])) ⌝ }
-{
-    let first = weight(kind_of_pair(bytes, 1));
-    let second = weight(kind_of_pair(bytes, 2));
-    let third = weight(kind_of_pair(bytes, 3));
-    let fourth = weight(kind_of_pair(bytes, 4));
-    if first + second + third + fourth != 156 {
-        return Stage::Refused(5);
-    }
-    Stage::Passed
-}
-
-fn pair_of_kind(bytes: &[u8], kind: u8) -> usize
-    requires { ⌜ Chained (now bytes) ⌝ }
-    ensures { λ r. ⌜ r ≡ pairOfKind (now (bytes .entry)) kind ⌝ }
-{
-    if kind_of_pair(bytes, 1) == kind {
-        return 1;
-    }
-    if kind_of_pair(bytes, 2) == kind {
-        return 2;
-    }
-    if kind_of_pair(bytes, 3) == kind {
-        return 3;
-    }
-    4
-}
-
-// The part of a kind, as the stretch of the record that its pair names.
-pub(crate) fn part_of_kind(bytes: &[u8], kind: u8) -> &[u8]
-    requires { ⌜ Chained (now bytes) ⌝ }
-    ensures { λ r. ⌜ now r ≡ partOfKind (now (bytes .entry)) kind ⌝ }
-{
-    let k = pair_of_kind(bytes, kind);
-    part_of_pair(bytes, k)
+    Part { start: 0, bytes: 0 }
 }
 
 fn positions_length(part: &[u8]) -> bool
     ensures { λ r. ⌜ r ≡ positionsLength (now (part .entry)) ⌝ }
 {
-    if part.len() < 2 {
+    if part.len() < POSITIONS_FRONT {
         return false;
     }
-    part.len() == 2 + 8 * (part[1] as usize)
+    part.len() == POSITIONS_FRONT + POSITION_BYTES * (part[1] as usize)
 }
 
-// Refusal 6.
-fn check_lengths(bytes: &[u8]) -> Stage
-    requires { ⌜ Chained (now bytes) ⌝ }
-    ensures { λ r. ⌜ r ≡ stage (firstFrom 6 (refusal6 (now (bytes .entry)) ∷ [])) ⌝ }
+// Refusals 4 to 6: where four parts have four kinds, each kind is there once.
+fn find_parts(bytes: &[u8]) -> Layout
+    requires { ⌜ 20 ≤ length (now bytes) ⌝ }
+    ensures { λ r. ⌜ r ≡ layout (firstHolding 4 (partTests (now (bytes .entry)))) (partsOf (now (bytes .entry))) ⌝ }
 {
-    let members = part_of_kind(bytes, 1);
-    if members.len() != 42 {
-        return Stage::Refused(6);
+    let mut bounds = [0usize; PAIRS + 1];
+    if !chain::read(
+        bytes,
+        Width::Two,
+        FIRST_PAIR,
+        HEADER_BYTES,
+        PAIRS,
+        &mut bounds,
+    ) {
+        return Layout::Refused(4);
     }
-    let dowel = part_of_kind(bytes, 2);
-    if dowel.len() != 3 {
-        return Stage::Refused(6);
+    let members = find_part(bytes, bounds, MEMBERS);
+    let dowel = find_part(bytes, bounds, DOWEL);
+    let positions = find_part(bytes, bounds, POSITIONS);
+    let loads = find_part(bytes, bounds, LOADS);
+    if (members.bytes == 0) | (dowel.bytes == 0) | (positions.bytes == 0) | (loads.bytes == 0) {
+        return Layout::Refused(5);
     }
-    let positions = part_of_kind(bytes, 3);
-    if !positions_length(positions) {
-        return Stage::Refused(6);
+    let sized = (members.bytes == MEMBERS_BYTES)
+        & (dowel.bytes == DOWEL_BYTES)
+        & positions_length(stretch(bytes, positions))
+        & (loads.bytes == LOADS_BYTES);
+    if !sized {
+        return Layout::Refused(6);
     }
-    let loads = part_of_kind(bytes, 4);
-    if loads.len() != 11 {
-        return Stage::Refused(6);
-    }
-    Stage::Passed
+    Layout::Laid(Parts {
+        members,
+        dowel,
+        positions,
+        loads,
+    })
 }
 
 // Refusals 1 to 6.
-pub(crate) fn check_layout(bytes: &[u8]) -> Stage
-    ensures { λ r. ⌜ r ≡ stage (firstFrom 1 (scriptTests (now (bytes .entry)))) ⌝ }
+pub(crate) fn read_layout(bytes: &[u8]) -> Layout
+    ensures { λ r. ⌜ r ≡ layout (firstHolding 1 (scriptTests (now (bytes .entry)))) (partsOf (now (bytes .entry))) ⌝ }
 {
-    let header = check_header(bytes);
-    let Stage::Passed = header else {
-        return header;
-    };
-    let pairs = check_pairs(bytes);
-    let Stage::Passed = pairs else {
-        return pairs;
-    };
-    let kinds = check_kinds(bytes);
-    let Stage::Passed = kinds else {
-        return kinds;
-    };
-    check_lengths(bytes)
+    if bytes.len() < HEADER_BYTES {
+        return Layout::Refused(1);
+    }
+    let version = u16_at(bytes, VERSION_AT);
+    if version != VERSION {
+        return Layout::Refused(2);
+    }
+    let count = u16_at(bytes, COUNT_AT) as usize;
+    if count != PAIRS {
+        return Layout::Refused(3);
+    }
+    find_parts(bytes)
 }

@@ -13,6 +13,8 @@ mod limits;
 mod parts;
 pub mod report;
 
+use crate::layout::Layout;
+use crate::layout::layout_number;
 use crate::report::Report;
 use crate::report::Verdict;
 
@@ -79,16 +81,10 @@ pub struct Outcome {
     pub values: Values,
 }
 
-// What a stage of reading finds: nothing to refuse, or a refusal's number.
+// What testing the values finds: nothing to refuse, or a refusal's number.
 enum Stage {
     Passed,
     Refused(u8),
-}
-
-// A pair of the header that follows the rule, with the end of its part; or one that does not.
-enum Pair {
-    End(usize),
-    Broken,
 }
 
 fn number_of(stage: Stage) -> u8
@@ -149,11 +145,11 @@ fn refused(number: u8, member: u8, first: u8, second: u8) -> Outcome
 pub fn refusal(bytes: &[u8]) -> Outcome
     ensures { λ r. ⌜ r ≡ outcomeOf (now (bytes .entry)) ⌝ }
 {
-    let layout = layout::check_layout(bytes);
-    let Stage::Passed = layout else {
-        return refused(number_of(layout), 0, 0, 0);
+    let layout = layout::read_layout(bytes);
+    let Layout::Laid(parts) = layout else {
+        return refused(layout_number(layout), 0, 0, 0);
     };
-    let values = parts::values_of(bytes);
+    let values = parts::values_of(bytes, parts);
     let limits = limits::check_values(values);
     let Stage::Passed = limits else {
         return refused(number_of(limits), 0, 0, 0);

@@ -7,55 +7,60 @@ use crate::Members;
 use crate::Outline;
 use crate::Positions;
 use crate::Values;
-use crate::layout::part_of_kind;
+use crate::layout::POSITION_BYTES;
+use crate::layout::Parts;
+use crate::layout::stretch;
 use numbers::i32_at;
 use numbers::u16_at;
 ghost use mathlib.Core.Path.{_≡_};
 ghost use Prim.Native.Nat.{_+_, _*_, _≤_, min};
 ghost use lib.ListN.{length};
 ghost use Rattle.numbers.specs.Numbers.{u8At};
-ghost use Rattle.joint.specs.Layout.{outlineAt, memberAt, membersIn, dowelIn, column, positionsIn, loadsIn, valuesOf};
-ghost use Rattle.joint.specs.Stage.{Chained, Sized};
+ghost use Rattle.joint.specs.Layout.{memberAt, membersIn, dowelIn, column, positionsIn, loadsIn, valuesOf};
+ghost use Rattle.joint.specs.Stage.{LaidOut};
 
-fn outline_at(part: &[u8], i: usize) -> Outline
-    requires { ⌜ i + 16 ≤ length (now part) ⌝ }
-    ensures { λ r. ⌜ r ≡ outlineAt (now (part .entry)) i ⌝ }
-{
-    Outline {
-        x0: i32_at(part, i),
-        y0: i32_at(part, i + 4),
-        x1: i32_at(part, i + 8),
-        y1: i32_at(part, i + 12),
-    }
-}
+// Where the members stand in their part, after kind and shear planes; each has 20 bytes.
+const MEMBER_1: usize = 2;
 
+const MEMBER_2: usize = 22;
+
+// Where the first dowel's x and y stand in their part, after kind and N.
+const FIRST_X: usize = 2;
+
+const FIRST_Y: usize = 6;
+
+// Class, grain, thickness, then x0, y0, x1 and y1.
 fn member_at(part: &[u8], i: usize) -> Member
     requires { ⌜ i + 20 ≤ length (now part) ⌝ }
     ensures { λ r. ⌜ r ≡ memberAt (now (part .entry)) i ⌝ }
 {
-    let thickness = u16_at(part, i + 2);
-    let outline = outline_at(part, i + 4);
+    let o = i + 4;
     Member {
         class: part[i],
         grain: part[i + 1],
-        thickness,
-        outline,
+        thickness: u16_at(part, i + 2),
+        outline: Outline {
+            x0: i32_at(part, o),
+            y0: i32_at(part, o + 4),
+            x1: i32_at(part, o + 8),
+            y1: i32_at(part, o + 12),
+        },
     }
 }
 
+// Kind, shear planes, then both members.
 fn members_in(part: &[u8]) -> Members
     requires { ⌜ length (now part) ≡ 42 ⌝ }
     ensures { λ r. ⌜ r ≡ membersIn (now (part .entry)) ⌝ }
 {
-    let member1 = member_at(part, 2);
-    let member2 = member_at(part, 22);
     Members {
         planes: part[1],
-        member1,
-        member2,
+        member1: member_at(part, MEMBER_1),
+        member2: member_at(part, MEMBER_2),
     }
 }
 
+// Kind, diameter, steel.
 fn dowel_in(part: &[u8]) -> Dowel
     requires { ⌜ length (now part) ≡ 3 ⌝ }
     ensures { λ r. ⌜ r ≡ dowelIn (now (part .entry)) ⌝ }
@@ -73,6 +78,7 @@ fn places(n: usize) -> usize
     if n < MOST_DOWELS { n } else { MOST_DOWELS }
 }
 
+// Every eighth byte from `at` on starts a dowel's number.
 fn column_of(part: &[u8], at: usize, n: usize) -> [i32; MOST_DOWELS]
     requires { ⌜ (at ≤ 6) × (2 + 8 * n ≤ length (now part)) ⌝ }
     ensures { λ r. ⌜ r ≡ column (now (part .entry)) at n ⌝ }
@@ -81,49 +87,49 @@ fn column_of(part: &[u8], at: usize, n: usize) -> [i32; MOST_DOWELS]
     let mut l = [0i32; MOST_DOWELS];
     let mut i = 0;
     while i < held {
-        let z = i32_at(part, at + 8 * i);
+        let z = i32_at(part, at + POSITION_BYTES * i);
         l[i] = z;
         i += 1;
     }
     l
 }
 
+// Kind, N, then x and y of each dowel.
 fn positions_in(part: &[u8]) -> Positions
     requires { ⌜ length (now part) ≡ 2 + 8 * u8At (now part) 1 ⌝ }
     ensures { λ r. ⌜ r ≡ positionsIn (now (part .entry)) ⌝ }
 {
     let n = part[1] as usize;
-    let x = column_of(part, 2, n);
-    let y = column_of(part, 6, n);
+    let x = column_of(part, FIRST_X, n);
+    let y = column_of(part, FIRST_Y, n);
     Positions { n, x, y }
 }
 
+// Kind, service class, duration, then fx and fy.
 fn loads_in(part: &[u8]) -> Loads
     requires { ⌜ length (now part) ≡ 11 ⌝ }
     ensures { λ r. ⌜ r ≡ loadsIn (now (part .entry)) ⌝ }
 {
-    let fx = i32_at(part, 3);
-    let fy = i32_at(part, 7);
     Loads {
         service_class: part[1],
         duration: part[2],
-        fx,
-        fy,
+        fx: i32_at(part, 3),
+        fy: i32_at(part, 7),
     }
 }
 
-pub(crate) fn values_of(bytes: &[u8]) -> Values
-    requires { ⌜ Chained (now bytes) × Sized (now bytes) ⌝ }
+pub(crate) fn values_of(bytes: &[u8], parts: Parts) -> Values
+    requires { ⌜ LaidOut (now bytes) parts ⌝ }
     ensures { λ r. ⌜ r ≡ valuesOf (now (bytes .entry)) ⌝ }
 {
-    let members = members_in(part_of_kind(bytes, 1));
-    let dowel = dowel_in(part_of_kind(bytes, 2));
-    let positions = positions_in(part_of_kind(bytes, 3));
-    let loads = loads_in(part_of_kind(bytes, 4));
+    let members = parts.members;
+    let dowel = parts.dowel;
+    let positions = parts.positions;
+    let loads = parts.loads;
     Values {
-        members,
-        dowel,
-        positions,
-        loads,
+        members: members_in(stretch(bytes, members)),
+        dowel: dowel_in(stretch(bytes, dowel)),
+        positions: positions_in(stretch(bytes, positions)),
+        loads: loads_in(stretch(bytes, loads)),
     }
 }

@@ -2,13 +2,22 @@
 ghost use mathlib.Core.Path.{_≡_};
 ghost use Prim.Native.Nat.{_+_, _≤_};
 ghost use lib.ListN.{length};
-ghost use Rattle.numbers.specs.Numbers.{u16At, twosComplement, i32At, betweenZ, coordinate, force};
+ghost use Rattle.numbers.specs.Numbers.{u16At, u32At, twosComplement, i32At, betweenZ, coordinate, force};
 
 pub fn u16_at(s: &[u8], i: usize) -> u16
     requires { ⌜ i + 2 ≤ length (now s) ⌝ }
     ensures { λ r. ⌜ r ≡ u16At (now (s .entry)) i ⌝ }
 {
     (s[i] as u16) + (s[i + 1] as u16) * 256
+}
+
+pub fn u32_at(s: &[u8], i: usize) -> u32
+    requires { ⌜ i + 4 ≤ length (now s) ⌝ }
+    ensures { λ r. ⌜ r ≡ u32At (now (s .entry)) i ⌝ }
+{
+    let low = u16_at(s, i) as u32;
+    let high = u16_at(s, i + 2) as u32;
+    low + high * 65536
 }
 
 fn signed(n: u32) -> i32
@@ -25,9 +34,7 @@ pub fn i32_at(s: &[u8], i: usize) -> i32
     requires { ⌜ i + 4 ≤ length (now s) ⌝ }
     ensures { λ r. ⌜ r ≡ i32At (now (s .entry)) i ⌝ }
 {
-    let low = u16_at(s, i) as u32;
-    let high = u16_at(s, i + 2) as u32;
-    signed(low + high * 65536)
+    signed(u32_at(s, i))
 }
 
 fn is_within(low: i32, high: i32, z: i32) -> bool

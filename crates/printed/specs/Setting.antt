@@ -5,7 +5,7 @@ use Rattle.printed.specs.declared.cells.Setting.{Setting}
 pub record Within (s : Setting) : Type 0 where
   pub diameter-low : 10 ≤ s .diameter
   pub diameter-high : s .diameter ≤ 24
-  pub side : s .side ≤ 1000000000000
-  pub other : s .other ≤ 1000000000000
+  pub member1 : s .member1 ≤ 1000000000000
+  pub member2 : s .member2 ≤ 1000000000000
   pub planes-low : 1 ≤ s .planes
   pub planes-high : s .planes ≤ 2

@@ -2,8 +2,8 @@
 use crate::tables;
 use crate::tables::Table;
 use strength::capacity;
-use strength::plane::Member;
 use strength::plane::Plane;
+use strength::plane::Timber;
 ghost use Prim.Native.Nat.{_≤_, _<_};
 ghost use Rattle.strength.specs.Shear.{MemberWithin};
 ghost use Rattle.printed.specs.Setting.{Within};
@@ -29,8 +29,8 @@ const HUNDREDTH: u64 = 16250;
 // Where a group of three cells stands: the dowel's diameter in mm, cos² of both members in units of 10^-12, the shear planes.
 pub struct Setting {
     pub diameter: u8,
-    pub side: u64,
-    pub other: u64,
+    pub member1: u64,
+    pub member2: u64,
     pub planes: u64,
 }
 
@@ -43,30 +43,30 @@ fn setting_of(table: Table, group: usize) -> Setting
     match table {
         Table::Single => Setting {
             diameter: d,
-            side: TOTAL,
-            other: turned,
+            member1: TOTAL,
+            member2: turned,
             planes: 1,
         },
         Table::MiddleTurned => Setting {
             diameter: d,
-            side: TOTAL,
-            other: turned,
+            member1: TOTAL,
+            member2: turned,
             planes: 2,
         },
         Table::SidesTurned => Setting {
             diameter: d,
-            side: turned,
-            other: TOTAL,
+            member1: turned,
+            member2: TOTAL,
             planes: 2,
         },
     }
 }
 
-fn member(diameter: u8, along: u64, thickness: u64) -> Member
+fn member(diameter: u8, along: u64, thickness: u64) -> Timber
     requires { ⌜ (diameter ≤ 24) × (along ≤ 1000000000000) × (200 ≤ thickness) × (thickness ≤ 4000) ⌝ }
     ensures { λ r. ⌜ MemberWithin r ⌝ }
 {
-    Member {
+    Timber {
         density: DENSITY,
         k90: strength::tables::k90_softwood(diameter),
         along,
@@ -76,13 +76,13 @@ fn member(diameter: u8, along: u64, thickness: u64) -> Member
 }
 
 // The capacity in thousandths of a newton for two thicknesses in tenths of a mm.
-fn capacity_at(s: Setting, side: u64, other: u64) -> u64
+fn capacity_at(s: Setting, member1: u64, member2: u64) -> u64
     requires { ⌜ Within s ⌝ }
-    requires { ⌜ (200 ≤ side) × (side ≤ 4000) × (200 ≤ other) × (other ≤ 4000) ⌝ }
+    requires { ⌜ (200 ≤ member1) × (member1 ≤ 4000) × (200 ≤ member2) × (member2 ≤ 4000) ⌝ }
 {
     capacity::capacity_thousandths(Plane {
-        side: member(s.diameter, s.side, side),
-        other: member(s.diameter, s.other, other),
+        member1: member(s.diameter, s.member1, member1),
+        member2: member(s.diameter, s.member2, member2),
         diameter: s.diameter as u64,
         steel: STEEL,
         planes: s.planes,
@@ -116,11 +116,11 @@ fn force_differs(s: Setting, print: u64) -> bool
     true
 }
 
-fn with_one(s: Setting, side: bool, thickness: u64) -> u64
+fn with_one(s: Setting, member1: bool, thickness: u64) -> u64
     requires { ⌜ Within s ⌝ }
     requires { ⌜ (200 ≤ thickness) × (thickness ≤ 4000) ⌝ }
 {
-    if side {
+    if member1 {
         capacity_at(s, thickness, THICK)
     } else {
         capacity_at(s, THICK, thickness)
@@ -128,7 +128,7 @@ fn with_one(s: Setting, side: bool, thickness: u64) -> u64
 }
 
 // A least thickness, of the side member or of the other: half a mm above the print the first term decides, half a mm below it not.
-fn thickness_differs(s: Setting, side: bool, print: u64) -> bool
+fn thickness_differs(s: Setting, member1: bool, print: u64) -> bool
     requires { ⌜ Within s ⌝ }
 {
     if print < 21 {
@@ -138,10 +138,10 @@ fn thickness_differs(s: Setting, side: bool, print: u64) -> bool
         return true;
     }
     let first = capacity_at(s, THICK, THICK);
-    if with_one(s, side, 10 * print + 5) != first {
+    if with_one(s, member1, 10 * print + 5) != first {
         return true;
     }
-    first <= with_one(s, side, 10 * print - 5)
+    first <= with_one(s, member1, 10 * print - 5)
 }
 
 fn one_if(differs: bool) -> u64
@@ -158,7 +158,7 @@ pub fn differing(table: Table, group: usize, altered: usize) -> u64
     let s = setting_of(table, group);
     let at = 3 * group;
     let force = one_if(force_differs(s, tables::printed(table, at, altered)));
-    let side = one_if(thickness_differs(s, true, tables::printed(table, at + 1, altered)));
-    let other = one_if(thickness_differs(s, false, tables::printed(table, at + 2, altered)));
-    force + side + other
+    let member1 = one_if(thickness_differs(s, true, tables::printed(table, at + 1, altered)));
+    let member2 = one_if(thickness_differs(s, false, tables::printed(table, at + 2, altered)));
+    force + member1 + member2
 }

@@ -8,8 +8,8 @@ use factors::Factor;
 use libc::STDOUT_FILENO;
 use strength::capacity;
 use strength::moment;
-use strength::plane::Member;
 use strength::plane::Plane;
+use strength::plane::Timber;
 use tables::Table;
 ghost use Prim.Native.Nat.{_≤_};
 
@@ -30,7 +30,8 @@ fn main() {
     write_tally(b"one cell altered by one unit: ", all_tables(ALTERED));
     write_tally(b"factors k1: ", all_factors(Factor::Wood, 8));
     write_tally(b"factors k2: ", all_factors(Factor::Steel, 3));
-    example();
+    write_tally(b"Example 13-1, M and capacity: ", example(145930, 13445));
+    write_tally(b"altered by one unit each: ", example(145940, 13444));
 }
 
 fn write_tally(name: &[u8], t: Tally) {
@@ -78,26 +79,40 @@ fn all_factors(f: Factor, last: u8) -> Tally {
     }
 }
 
+// 1 where a value in thousandths is not within a unit of what is printed.
+fn off(value: u64, printed: u64, unit: u64) -> u64
+    requires { ⌜ (unit ≤ printed) × (printed ≤ 1000000) ⌝ }
+    ensures { λ r. ⌜ r ≤ 1 ⌝ }
+{
+    if 1000 * (printed - unit) < value {
+        if value < 1000 * (printed + unit) {
+            return 0;
+        }
+    }
+    1
+}
+
 // Example 13-1: GL28h, one shear plane, d = 16 mm, S235, along the grain, 80 mm on both sides.
 // 001 prints M = 145.930 Nmm, rounded to tens, and 13.445 N, worked out with f rounded to 29,27 N/mm².
-fn example() {
-    let m = Member {
+fn example(moment: u64, capacity: u64) -> Tally
+    requires { ⌜ ((10 ≤ moment) × (moment ≤ 1000000)) × ((1 ≤ capacity) × (capacity ≤ 1000000)) ⌝ }
+{
+    let m = Timber {
         density: 425,
         k90: strength::tables::k90_softwood(16),
         along: 1,
         total: 1,
         thickness: 800,
     };
-    let c = capacity::capacity(Plane {
-        side: m,
-        other: m,
+    let c = capacity::capacity_thousandths(Plane {
+        member1: m,
+        member2: m,
         diameter: 16,
         steel: 360,
         planes: 1,
     });
-    io::write_all(STDOUT_FILENO, b"Example 13-1: M ");
-    io::print_decimal(STDOUT_FILENO, moment::yield_moment(16, 360) / 1000);
-    io::write_all(STDOUT_FILENO, b" Nmm (printed 145930), capacity ");
-    io::print_decimal(STDOUT_FILENO, c);
-    io::write_all(STDOUT_FILENO, b" N (printed 13445)\n");
+    Tally {
+        compared: 2,
+        differing: off(moment::yield_moment(16, 360), moment, 10) + off(c, capacity, 1),
+    }
 }

@@ -1,11 +1,10 @@
 -- Within the ranges no denominator of the formulas is 0, and each fraction of 01 is a ratio of the whole numbers worked with.
--- Assumes nothing.
 use Prim.Native.Nat.{ℕ, _+_, _*_, _-_, _≤_, _<_}
 use native.Mathlib.Nat.{mul-pos, mul-le-mul-right}
 use native.Mathlib.Omega.{arith}
 use mathlib.Core.Path.{_≡_, refl, ap}
 use lib.Dec.{lit<}
-use Rattle.strength.specs.declared.plane.Member.{Member}
+use Rattle.strength.specs.declared.plane.Timber.{Timber}
 use Rattle.strength.specs.declared.plane.Plane.{Plane}
 use Rattle.strength.specs.Fraction.{Fraction, _over_, whole, _⊕_, _⊗_, _⊘_, _≈_}
 use Rattle.strength.specs.Shear.{bearing, f1, f2, sSquared, cSquared, bearingForce, firstToTheTenth, MemberWithin, PlaneWithin}
@@ -29,7 +28,7 @@ lit-positive n d hn hd = record { num = hn; den = hd }
 divisor-positive : (k a b T : ℕ) → 0 < k → 0 < T → a + b ≡ T → 0 < k * b * T + a * (1000 * T)
 divisor-positive k a b T hk hT e = omega (arith, mul-pos hT hT, mul-le-mul-right (b * T) hk, ap (λ (z : ℕ). z * T) e)
 
-pub bearing-positive : (d : ℕ) (m : Member) → d ≤ 30 → MemberWithin m → Positive (bearing d m)
+pub bearing-positive : (d : ℕ) (m : Timber) → d ≤ 30 → MemberWithin m → Positive (bearing d m)
 unfolding bearing
 bearing-positive d m hd w =
     let rest : 0 < 100 - d = omega arith in
@@ -49,7 +48,7 @@ ratio : (e ρ T k b a : ℕ) →
 ratio e ρ T k b a = omega arith
 
 -- f = 82 (100 - d) bearingNum / (100 bearingDen)
-pub bearing-is : (d : ℕ) (m : Member) → bearing d m ≈ ((82 * (100 - d) * bearingNum m) over (100 * bearingDen m))
+pub bearing-is : (d : ℕ) (m : Timber) → bearing d m ≈ ((82 * (100 - d) * bearingNum m) over (100 * bearingDen m))
 unfolding bearing
 bearing-is d m = ratio (100 - d) (m .density) (m .total) (m .k90) (m .total - m .along) (m .along)
 
@@ -97,10 +96,10 @@ force-≈ a κ n D d t pD e =
 -- No denominator of the formulas is 0: each fraction is above 0, numerator and denominator.
 module _ (p : Plane) (w : PlaneWithin p) where
   pub f1-positive : Positive (f1 p)
-  f1-positive = bearing-positive (p .diameter) (p .side) (w .dowel .diameter-high) (w .side)
+  f1-positive = bearing-positive (p .diameter) (p .member1) (w .dowel .diameter-high) (w .member1)
 
   pub f2-positive : Positive (f2 p)
-  f2-positive = bearing-positive (p .diameter) (p .other) (w .dowel .diameter-high) (w .other)
+  f2-positive = bearing-positive (p .diameter) (p .member2) (w .dowel .diameter-high) (w .member2)
 
   pub s-positive : Positive (sSquared p)
   s-positive = ⊘-positive f2-positive (⊕-positive f1-positive f2-positive)
@@ -111,15 +110,15 @@ module _ (p : Plane) (w : PlaneWithin p) where
   diameter-positive : Positive (whole (p .diameter))
   diameter-positive = lit-positive (p .diameter) 1 (omega arith) (lit< tt)
 
-  pub side-force-positive : Positive (bearingForce (p .diameter) (p .side))
+  pub side-force-positive : Positive (bearingForce (p .diameter) (p .member1))
   side-force-positive =
       ⊗-positive (⊗-positive f1-positive diameter-positive)
-      (lit-positive (p .side .thickness) 10 (omega (arith, w .side .thickness-low)) (lit< tt))
+      (lit-positive (p .member1 .thickness) 10 (omega (arith, w .member1 .thickness-low)) (lit< tt))
 
-  pub other-force-positive : Positive (bearingForce (p .diameter) (p .other))
+  pub other-force-positive : Positive (bearingForce (p .diameter) (p .member2))
   other-force-positive =
       ⊗-positive (⊗-positive f2-positive diameter-positive)
-      (lit-positive (p .other .thickness) 10 (omega (arith, w .other .thickness-low)) (lit< tt))
+      (lit-positive (p .member2 .thickness) 10 (omega (arith, w .member2 .thickness-low)) (lit< tt))
 
   pub first-positive : Positive (firstToTheTenth p)
   first-positive =

@@ -1,12 +1,11 @@
 -- The capacity by definition brackets R: c ≤ 1000 R < c + 2, and its newtons C ≤ R < C + 2.
--- Assumes nothing.
 use Prim.Native.Nat.{ℕ, _+_, _*_, _-_, _/_, _^_, _≤_, _<_, min}
 use native.Mathlib.Nat.{mul-pos, mul-le-mul, mul-le-mul-left, mul-le-mul-right, le-trans, lt-of-le-of-lt, lt-of-lt-of-le, lt-of-not-le, lt-irrefl, le-min, min-le-left, min-le-right, mul-div-le, lt-mul-div-succ, lt-div-mul-add, div-mul-le-self, div-le-of-le-mul, le-of-lt, one-le-pow, mul-one, le-add-left, le-add-right}
 use native.Mathlib.Omega.{arith}
 use mathlib.Core.Path.{refl, sym}
 use mathlib.Core.Bool.{Bool, true, false, cond}
 use lib.Dec.{eqb, lit<}
-use Rattle.strength.specs.declared.plane.Member.{Member}
+use Rattle.strength.specs.declared.plane.Timber.{Timber}
 use Rattle.strength.specs.declared.plane.Plane.{Plane}
 use Rattle.strength.specs.Fraction.{Fraction, _over_, whole, _⊕_, _⊗_, _⊘_, _↑_, _≼_, _≈_, Proper}
 use Rattle.strength.specs.Roots.{SquareRoot, FifthRoot}
@@ -111,7 +110,7 @@ module _ (k m nn S W : ℕ) (pos : 0 < S) (bound : 9 * nn ≤ 10 * S) (k-high : 
 
 -- d f1 f2/(f1 + f2) and the first term's tenth power as ratios
 abbrev joinedRatio : Plane → Fraction
-joinedRatio p = (dowelFactor (p .diameter) * (bearingNum (p .side) * bearingNum (p .other))) over (100 * crossSum p)
+joinedRatio p = (dowelFactor (p .diameter) * (bearingNum (p .member1) * bearingNum (p .member2))) over (100 * crossSum p)
 
 abbrev firstRatio : Plane → Fraction
 firstRatio p =
@@ -125,49 +124,49 @@ module _ (p : Plane) (w : PlaneWithin p) where
   rest-positive : 0 < 82 * (100 - p .diameter)
   rest-positive = omega (arith, w .dowel .diameter-high)
 
-  side-ratio-positive : Positive (F (82 * (100 - p .diameter)) (bearingNum (p .side)) (bearingDen (p .side)))
+  side-ratio-positive : Positive (F (82 * (100 - p .diameter)) (bearingNum (p .member1)) (bearingDen (p .member1)))
   side-ratio-positive = record {
-    num = mul-pos rest-positive (num-positive (p .side) (w .side));
-    den = omega (arith, den-positive (p .side) (w .side));
+    num = mul-pos rest-positive (num-positive (p .member1) (w .member1));
+    den = omega (arith, den-positive (p .member1) (w .member1));
   }
 
-  other-ratio-positive : Positive (F (82 * (100 - p .diameter)) (bearingNum (p .other)) (bearingDen (p .other)))
+  other-ratio-positive : Positive (F (82 * (100 - p .diameter)) (bearingNum (p .member2)) (bearingDen (p .member2)))
   other-ratio-positive = record {
-    num = mul-pos rest-positive (num-positive (p .other) (w .other));
-    den = omega (arith, den-positive (p .other) (w .other));
+    num = mul-pos rest-positive (num-positive (p .member2) (w .member2));
+    den = omega (arith, den-positive (p .member2) (w .member2));
   }
 
   joined-ratio : (whole (p .diameter) ⊗ f1 p ⊗ f2 p ⊘ (f1 p ⊕ f2 p)) ≈ joinedRatio p
   joined-ratio =
-      joined-≈ (f1 p) (f2 p) (82 * (100 - p .diameter)) (bearingNum (p .side)) (bearingDen (p .side))
-      (bearingNum (p .other))
-      (bearingDen (p .other))
+      joined-≈ (f1 p) (f2 p) (82 * (100 - p .diameter)) (bearingNum (p .member1)) (bearingDen (p .member1))
+      (bearingNum (p .member2))
+      (bearingDen (p .member2))
       side-ratio-positive
       other-ratio-positive
-      (bearing-is (p .diameter) (p .side))
-      (bearing-is (p .diameter) (p .other))
+      (bearing-is (p .diameter) (p .member1))
+      (bearing-is (p .diameter) (p .member2))
       (p .diameter)
       (omega (arith, w .dowel .diameter-low))
 
-  s-ratio : sSquared p ≈ (crossed (p .other) (p .side) over crossSum p)
+  s-ratio : sSquared p ≈ (crossed (p .member2) (p .member1) over crossSum p)
   s-ratio =
-      s-≈ (f1 p) (f2 p) (82 * (100 - p .diameter)) (bearingNum (p .side)) (bearingDen (p .side)) (bearingNum (p .other))
-      (bearingDen (p .other))
+      s-≈ (f1 p) (f2 p) (82 * (100 - p .diameter)) (bearingNum (p .member1)) (bearingDen (p .member1)) (bearingNum (p .member2))
+      (bearingDen (p .member2))
       side-ratio-positive
       other-ratio-positive
-      (bearing-is (p .diameter) (p .side))
-      (bearing-is (p .diameter) (p .other))
+      (bearing-is (p .diameter) (p .member1))
+      (bearing-is (p .diameter) (p .member2))
 
-  c-ratio : cSquared p ≈ (crossed (p .side) (p .other) over crossSum p)
+  c-ratio : cSquared p ≈ (crossed (p .member1) (p .member2) over crossSum p)
   c-ratio =
-      c-≈ (f1 p) (f2 p) (82 * (100 - p .diameter)) (bearingNum (p .side)) (bearingDen (p .side)) (bearingNum (p .other))
-      (bearingDen (p .other))
+      c-≈ (f1 p) (f2 p) (82 * (100 - p .diameter)) (bearingNum (p .member1)) (bearingDen (p .member1)) (bearingNum (p .member2))
+      (bearingDen (p .member2))
       side-ratio-positive
       other-ratio-positive
-      (bearing-is (p .diameter) (p .side))
-      (bearing-is (p .diameter) (p .other))
+      (bearing-is (p .diameter) (p .member1))
+      (bearing-is (p .diameter) (p .member2))
 
-  force-ratio : (m : Member) → MemberWithin m →
+  force-ratio : (m : Timber) → MemberWithin m →
       bearingForce (p .diameter) m ≈ (forceOf (p .diameter) m over (1000 * bearingDen m))
   force-ratio m wm =
       force-≈ (bearing (p .diameter) m) (82 * (100 - p .diameter)) (bearingNum m) (bearingDen m) (p .diameter) (m .thickness)
@@ -188,10 +187,10 @@ module _ (p : Plane) (w : PlaneWithin p) where
 
   first-iff-to : (c : ℕ) → AtMostFirst p (c over 1000)
       → (10 * crossSum p * (c * c)) ^ 5
-      ≤ (529 * (dowelFactor (p .diameter) * (bearingNum (p .side) * bearingNum (p .other)))) ^ 5
+      ≤ (529 * (dowelFactor (p .diameter) * (bearingNum (p .member1) * bearingNum (p .member2)))) ^ 5
       * yieldToTheFifth (p .diameter) (p .steel)
   first-iff-to c l =
-      first-plain c (crossSum p) (dowelFactor (p .diameter) * (bearingNum (p .side) * bearingNum (p .other))) (p .steel)
+      first-plain c (crossSum p) (dowelFactor (p .diameter) * (bearingNum (p .member1) * bearingNum (p .member2))) (p .steel)
       (p .diameter)
       .0 (≼-trans ((c over 1000) ↑ 10) (firstToTheTenth p) (firstRatio p) (first-positive p w .den) l
       (≈-le (firstToTheTenth p) (firstRatio p) first-ratio))
@@ -206,18 +205,18 @@ module _ (p : Plane) (w : PlaneWithin p) where
 
   first-iff-from : (c : ℕ)
       → (10 * crossSum p * (c * c)) ^ 5
-      ≤ (529 * (dowelFactor (p .diameter) * (bearingNum (p .side) * bearingNum (p .other)))) ^ 5
+      ≤ (529 * (dowelFactor (p .diameter) * (bearingNum (p .member1) * bearingNum (p .member2)))) ^ 5
       * yieldToTheFifth (p .diameter) (p .steel)
       → AtMostFirst p (c over 1000)
   first-iff-from c l =
       ≼-trans ((c over 1000) ↑ 10) (firstRatio p) (firstToTheTenth p) first-ratio-proper
-      (first-plain c (crossSum p) (dowelFactor (p .diameter) * (bearingNum (p .side) * bearingNum (p .other))) (p .steel)
+      (first-plain c (crossSum p) (dowelFactor (p .diameter) * (bearingNum (p .member1) * bearingNum (p .member2))) (p .steel)
       (p .diameter)
       .1 l)
       (≈-le (firstRatio p) (firstToTheTenth p) (sym first-ratio))
 
   -- a wedge of the plane: member m, and s² or c² as the ratio v/S
-  module _ (m : Member) (wm : MemberWithin m) (pK : Positive (bearingForce (p .diameter) m)) (q : Fraction) (pq : Positive q)
+  module _ (m : Timber) (wm : MemberWithin m) (pK : Positive (bearingForce (p .diameter) m)) (q : Fraction) (pq : Positive q)
       (v : ℕ) (eq : q ≈ (v over crossSum p)) (below : v ≤ crossSum p) where
     pub term-low : Wedge (bearingForce (p .diameter) m) q
         (wedgeOf (forceOf (p .diameter) m) (bearingDen m) (shareRootOf v (crossSum p)) over 1000)
@@ -257,7 +256,7 @@ module _ (p : Plane) (w : PlaneWithin p) where
   first-term : ℕ
   first-term =
       firstOf (dowelFactor (p .diameter)) (yieldMomentOf (p .diameter) (p .steel))
-      (bearingNum (p .side) * bearingNum (p .other))
+      (bearingNum (p .member1) * bearingNum (p .member2))
       (crossSum p)
 
   factor-positive : 0 < dowelFactor (p .diameter)
@@ -282,7 +281,7 @@ module _ (p : Plane) (w : PlaneWithin p) where
   at-first =
       first-iff-from first-term
       (first-low (dowelFactor (p .diameter)) (yieldMomentOf (p .diameter) (p .steel))
-      (bearingNum (p .side) * bearingNum (p .other))
+      (bearingNum (p .member1) * bearingNum (p .member2))
       (crossSum p)
       (yieldToTheFifth (p .diameter) (p .steel))
       (sum-positive p w)
@@ -295,7 +294,7 @@ module _ (p : Plane) (w : PlaneWithin p) where
   unfolding first-term
   past-first l =
       first-high (dowelFactor (p .diameter)) (yieldMomentOf (p .diameter) (p .steel))
-      (bearingNum (p .side) * bearingNum (p .other))
+      (bearingNum (p .member1) * bearingNum (p .member2))
       (crossSum p)
       (yieldToTheFifth (p .diameter) (p .steel))
       (sum-positive p w)
@@ -304,80 +303,80 @@ module _ (p : Plane) (w : PlaneWithin p) where
       moment-high
       (rw mul-one at (moment-root .high))
       factor-positive
-      (mul-pos (num-positive (p .side) (w .side)) (num-positive (p .other) (w .other)))
+      (mul-pos (num-positive (p .member1) (w .member1)) (num-positive (p .member2) (w .member2)))
       factor-small
       (first-iff-to (first-term + 2) l)
 
   at-second : AtMostSecond p (secondOf p over 1000)
   unfolding secondOf
   at-second =
-      term-low (p .side) (w .side) (side-force-positive p w) (sSquared p) (s-positive p w) (crossed (p .other) (p .side))
+      term-low (p .member1) (w .member1) (side-force-positive p w) (sSquared p) (s-positive p w) (crossed (p .member2) (p .member1))
       s-ratio
-      (le-add-left (crossed (p .other) (p .side)) (crossed (p .side) (p .other)))
+      (le-add-left (crossed (p .member2) (p .member1)) (crossed (p .member1) (p .member2)))
 
   past-second : AtMostSecond p ((secondOf p + 2) over 1000) → ⊥
   unfolding secondOf
   past-second =
-      term-high (p .side) (w .side) (side-force-positive p w) (sSquared p) (s-positive p w) (crossed (p .other) (p .side))
+      term-high (p .member1) (w .member1) (side-force-positive p w) (sSquared p) (s-positive p w) (crossed (p .member2) (p .member1))
       s-ratio
-      (le-add-left (crossed (p .other) (p .side)) (crossed (p .side) (p .other)))
+      (le-add-left (crossed (p .member2) (p .member1)) (crossed (p .member1) (p .member2)))
 
   -- the third term for one shear plane and for two
   abbrev one : ℕ
   one =
-      wedgeOf (forceOf (p .diameter) (p .other)) (bearingDen (p .other))
-      (shareRootOf (crossed (p .side) (p .other)) (crossSum p))
+      wedgeOf (forceOf (p .diameter) (p .member2)) (bearingDen (p .member2))
+      (shareRootOf (crossed (p .member1) (p .member2)) (crossSum p))
 
   abbrev two : ℕ
-  two = halfOf (forceOf (p .diameter) (p .other)) (bearingDen (p .other))
+  two = halfOf (forceOf (p .diameter) (p .member2)) (bearingDen (p .member2))
 
   abbrev third-test : Bool → Fraction → Type 0
   third-test b x =
-      oneOrTwo b (Wedge (bearingForce (p .diameter) (p .other)) (cSquared p) x)
-      (x ≼ bearingForce (p .diameter) (p .other) ⊘ whole 2)
+      oneOrTwo b (Wedge (bearingForce (p .diameter) (p .member2)) (cSquared p) x)
+      (x ≼ bearingForce (p .diameter) (p .member2) ⊘ whole 2)
 
-  at-half : (two over 1000) ≼ (bearingForce (p .diameter) (p .other) ⊘ whole 2)
+  at-half : (two over 1000) ≼ (bearingForce (p .diameter) (p .member2) ⊘ whole 2)
   unfolding halfOf
   at-half =
-      let K = forceOf (p .diameter) (p .other) over (1000 * bearingDen (p .other)) in
-      ≼-trans (two over 1000) (K ⊘ whole 2) (bearingForce (p .diameter) (p .other) ⊘ whole 2)
-      (mul-pos (mul-pos {m = 1000} (lit< tt) (den-positive (p .other) (w .other))) (lit< tt))
-      (half-plain (forceOf (p .diameter) (p .other)) (bearingDen (p .other)) 0 0 two
-      .1 (div-mul-le-self (forceOf (p .diameter) (p .other)) (2 * bearingDen (p .other))))
-      (≈-le (K ⊘ whole 2) (bearingForce (p .diameter) (p .other) ⊘ whole 2)
-      (half-≈ K (bearingForce (p .diameter) (p .other)) (sym (force-ratio (p .other) (w .other)))))
+      let K = forceOf (p .diameter) (p .member2) over (1000 * bearingDen (p .member2)) in
+      ≼-trans (two over 1000) (K ⊘ whole 2) (bearingForce (p .diameter) (p .member2) ⊘ whole 2)
+      (mul-pos (mul-pos {m = 1000} (lit< tt) (den-positive (p .member2) (w .member2))) (lit< tt))
+      (half-plain (forceOf (p .diameter) (p .member2)) (bearingDen (p .member2)) 0 0 two
+      .1 (div-mul-le-self (forceOf (p .diameter) (p .member2)) (2 * bearingDen (p .member2))))
+      (≈-le (K ⊘ whole 2) (bearingForce (p .diameter) (p .member2) ⊘ whole 2)
+      (half-≈ K (bearingForce (p .diameter) (p .member2)) (sym (force-ratio (p .member2) (w .member2)))))
 
-  past-half : ((two + 2) over 1000) ≼ (bearingForce (p .diameter) (p .other) ⊘ whole 2) → ⊥
+  past-half : ((two + 2) over 1000) ≼ (bearingForce (p .diameter) (p .member2) ⊘ whole 2) → ⊥
   unfolding halfOf
   past-half l =
-      let K = forceOf (p .diameter) (p .other) over (1000 * bearingDen (p .other)) in
-      let h : (two + 2) * (2 * bearingDen (p .other)) ≤ forceOf (p .diameter) (p .other) =
-      half-plain (forceOf (p .diameter) (p .other)) (bearingDen (p .other)) 0 0 (two + 2)
-      .0 (≼-trans ((two + 2) over 1000) (bearingForce (p .diameter) (p .other) ⊘ whole 2) (K ⊘ whole 2)
+      let K = forceOf (p .diameter) (p .member2) over (1000 * bearingDen (p .member2)) in
+      let h : (two + 2) * (2 * bearingDen (p .member2)) ≤ forceOf (p .diameter) (p .member2) =
+      half-plain (forceOf (p .diameter) (p .member2)) (bearingDen (p .member2)) 0 0 (two + 2)
+      .0 (≼-trans ((two + 2) over 1000) (bearingForce (p .diameter) (p .member2) ⊘ whole 2) (K ⊘ whole 2)
       (mul-pos (other-force-positive p w .den) (lit< tt))
       l
-      (≈-le (bearingForce (p .diameter) (p .other) ⊘ whole 2) (K ⊘ whole 2)
-      (half-≈ (bearingForce (p .diameter) (p .other)) K (force-ratio (p .other) (w .other))))) in
-      lt-irrefl (forceOf (p .diameter) (p .other))
+      (≈-le (bearingForce (p .diameter) (p .member2) ⊘ whole 2) (K ⊘ whole 2)
+      (half-≈ (bearingForce (p .diameter) (p .member2)) K (force-ratio (p .member2) (w .member2))))) in
+      lt-irrefl (forceOf (p .diameter) (p .member2))
       (lt-of-lt-of-le
-      (next-quotient (forceOf (p .diameter) (p .other)) (2 * bearingDen (p .other))
-      (omega (arith, den-positive (p .other) (w .other))))
-      (le-trans (mul-le-mul-right (2 * bearingDen (p .other)) (omega arith)) h))
+      (next-quotient (forceOf (p .diameter) (p .member2)) (2 * bearingDen (p .member2))
+      (omega (arith, den-positive (p .member2) (w .member2))))
+      (le-trans (mul-le-mul-right (2 * bearingDen (p .member2)) (omega arith)) h))
 
   at-third-by : (b : Bool) → third-test b (cond b one two over 1000)
   at-third-by true =
-      term-low (p .other) (w .other) (other-force-positive p w) (cSquared p) (c-positive p w)
-      (crossed (p .side) (p .other))
+      term-low (p .member2) (w .member2) (other-force-positive p w) (cSquared p) (c-positive p w)
+      (crossed (p .member1) (p .member2))
       c-ratio
-      (le-add-right (crossed (p .side) (p .other)) (crossed (p .other) (p .side)))
+      (le-add-right (crossed (p .member1) (p .member2)) (crossed (p .member2) (p .member1)))
   at-third-by false = at-half
 
   past-third-by : (b : Bool) → third-test b ((cond b one two + 2) over 1000) → ⊥
   past-third-by true =
-      term-high (p .other) (w .other) (other-force-positive p w) (cSquared p) (c-positive p w)
-      (crossed (p .side) (p .other))
+      term-high (p .member2) (w .member2) (other-force-positive p w) (cSquared p) (c-positive p w)
+      (crossed (p .member1) (p .member2))
       c-ratio
-      (le-add-right (crossed (p .side) (p .other)) (crossed (p .other) (p .side)))
+      (le-add-right (crossed (p .member1) (p .member2)) (crossed (p .member2) (p .member1)))
   past-third-by false = past-half
 
   at-third : AtMostThird p (thirdOf p over 1000)

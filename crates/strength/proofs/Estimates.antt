@@ -1,5 +1,4 @@
 -- Why the whole numbers bracket R, over plain numbers: c passes each test and c + 2 fails it. Units are thousandths.
--- Assumes nothing.
 use Prim.Native.Nat.{ℕ, _+_, _*_, _-_, _^_, _≤_, _<_}
 use native.Mathlib.Nat.{mul-le-mul, mul-le-mul-left, mul-le-mul-right, mul-lt-mul-of-pos-left, mul-pos, le-of-mul-le-mul-right, le-trans, le-of-lt, lt-of-le-of-lt, lt-of-lt-of-le, add-sub-of-le, pow-le-pow-left, one-le-pow}
 use native.Mathlib.Omega.{arith}

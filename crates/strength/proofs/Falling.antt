@@ -1,5 +1,4 @@
 -- Each test of 01 is monotone: what is at most R stays so when it gets smaller. 0 is at most R.
--- Assumes nothing.
 use Prim.Native.Nat.{ℕ, _+_, _*_, _≤_}
 use native.Mathlib.Nat.{mul-pos, mul-le-mul-right, add-sub-of-le}
 use native.Mathlib.Omega.{arith}
@@ -64,7 +63,7 @@ module _ (p : Plane) (w : PlaneWithin p) (x y : Fraction) (px : Proper x) (h : y
 
   pub second-falls : AtMostSecond p x → AtMostSecond p y
   second-falls =
-      wedge-falls (bearingForce (p .diameter) (p .side)) (sSquared p) x y (side-force-positive p w .den)
+      wedge-falls (bearingForce (p .diameter) (p .member1)) (sSquared p) x y (side-force-positive p w .den)
       (s-positive p w .den)
       px
       h
@@ -73,7 +72,7 @@ module _ (p : Plane) (w : PlaneWithin p) (x y : Fraction) (px : Proper x) (h : y
   third-falls = go (eqb (p .planes) 1)
     where
       K : Fraction
-      K = bearingForce (p .diameter) (p .other)
+      K = bearingForce (p .diameter) (p .member2)
 
       go : (b : Bool) → oneOrTwo b (Wedge K (cSquared p) x) (x ≼ K ⊘ whole 2) → oneOrTwo b (Wedge K (cSquared p) y) (y ≼ K ⊘ whole 2)
       go true l = wedge-falls K (cSquared p) x y (other-force-positive p w .den) (c-positive p w .den) px h l
@@ -91,7 +90,7 @@ pub zero-at-most : (p : Plane) → AtMostR p (whole 0)
 zero-at-most p = record { first = omega arith; second = wedge-zero _ _; third = go (eqb (p .planes) 1) }
   where
     K : Fraction
-    K = bearingForce (p .diameter) (p .other)
+    K = bearingForce (p .diameter) (p .member2)
 
     wedge-zero : (K s : Fraction) → Wedge K s (whole 0)
     wedge-zero K s = record { within = omega arith; square = omega arith }

@@ -1,11 +1,10 @@
 -- The capacity by definition is at least 1,000 thousandths of a newton: what a use needs of it from below.
--- Assumes nothing.
 use Prim.Native.Nat.{ℕ, _+_, _*_, _/_, _≤_, _<_}
 use native.Mathlib.Nat.{mul-pos, mul-le-mul, mul-le-mul-left, mul-le-mul-right, lt-of-le-of-lt, lt-of-mul-lt-mul-right, le-trans, le-of-suc-le-suc, le-div-iff-mul-le, le-min, le-add-left, le-add-right}
 use native.Mathlib.Omega.{arith}
 use mathlib.Core.Bool.{Bool, true, false, cond}
 use lib.Dec.{eqb}
-use Rattle.strength.specs.declared.plane.Member.{Member}
+use Rattle.strength.specs.declared.plane.Timber.{Timber}
 use Rattle.strength.specs.declared.plane.Plane.{Plane}
 use Rattle.strength.specs.Shear.{MemberWithin, PlaneWithin}
 use Rattle.strength.specs.Working.{bearingNum, bearingDen, crossed, crossSum, dowelFactor, forceOf, yieldMomentOf, firstOf, shareRootOf, wedgeOf, halfOf, secondOf, thirdOf, capacityOf}
@@ -14,7 +13,7 @@ use Rattle.strength.proofs.Sizes.{den-positive, den-high, ratio-bound, 
 use Rattle.strength.proofs.Capacities.{share-high, radicand-root}
 
 -- D is at most some 6.2 n
-den-by-num : (m : Member) → MemberWithin m → 29 * bearingDen m ≤ 180 * bearingNum m
+den-by-num : (m : Timber) → MemberWithin m → 29 * bearingDen m ≤ 180 * bearingNum m
 den-by-num m w = go (bearingDen m) (den-high m w)
   where
     go : (D : ℕ) → D ≤ 1800 * m .total → 29 * D ≤ 180 * bearingNum m
@@ -51,7 +50,7 @@ half-floor : (P D : ℕ) → 0 < D → 1000000 * D ≤ P → 1000 ≤ halfOf P D
 unfolding halfOf
 half-floor P D pos force = le-div-iff-mul-le {k = 2 * D} (omega arith) .1 (omega arith)
 
-force-low : (d : ℕ) (m : Member) → 6 ≤ d → d ≤ 30 → MemberWithin m → 1000000 * bearingDen m ≤ forceOf d m
+force-low : (d : ℕ) (m : Timber) → 6 ≤ d → d ≤ 30 → MemberWithin m → 1000000 * bearingDen m ≤ forceOf d m
 force-low d m low high w =
     go (dowelFactor d * m .thickness) (bearingNum m) (bearingDen m) (mul-le-mul (factor-low d low high) (w .thickness-low))
     (den-by-num m w)
@@ -64,26 +63,26 @@ shares : (n1 D1 n2 D2 : ℕ) → 9 * n1 ≤ 10 * D1 → 29 * D2 ≤ 180 * n2 →
 shares n1 D1 n2 D2 h g = omega (arith, mul-le-mul-right (29 * D2) h, mul-le-mul-left (10 * D1) g)
 
 module _ (p : Plane) (w : PlaneWithin p) where
-  sums : 29 * crossSum p ≤ 360 * (bearingNum (p .side) * bearingNum (p .other))
+  sums : 29 * crossSum p ≤ 360 * (bearingNum (p .member1) * bearingNum (p .member2))
   sums =
-      go (bearingNum (p .side)) (bearingDen (p .side)) (bearingNum (p .other)) (bearingDen (p .other))
-      (den-by-num (p .side) (w .side))
-      (den-by-num (p .other) (w .other))
+      go (bearingNum (p .member1)) (bearingDen (p .member1)) (bearingNum (p .member2)) (bearingDen (p .member2))
+      (den-by-num (p .member1) (w .member1))
+      (den-by-num (p .member2) (w .member2))
     where
       go : (n1 D1 n2 D2 : ℕ) → 29 * D1 ≤ 180 * n1 → 29 * D2 ≤ 180 * n2 → 29 * (n1 * D2 + n2 * D1) ≤ 360 * (n1 * n2)
       go n1 D1 n2 D2 h g = omega (arith, mul-le-mul-right n2 h, mul-le-mul-left n1 g)
 
-  side-share : crossed (p .side) (p .other) ≤ 7 * crossed (p .other) (p .side)
+  side-share : crossed (p .member1) (p .member2) ≤ 7 * crossed (p .member2) (p .member1)
   side-share =
-      shares (bearingNum (p .side)) (bearingDen (p .side)) (bearingNum (p .other)) (bearingDen (p .other))
-      (ratio-bound (p .side) (w .side))
-      (den-by-num (p .other) (w .other))
+      shares (bearingNum (p .member1)) (bearingDen (p .member1)) (bearingNum (p .member2)) (bearingDen (p .member2))
+      (ratio-bound (p .member1) (w .member1))
+      (den-by-num (p .member2) (w .member2))
 
-  other-share : crossed (p .other) (p .side) ≤ 7 * crossed (p .side) (p .other)
+  other-share : crossed (p .member2) (p .member1) ≤ 7 * crossed (p .member1) (p .member2)
   other-share =
-      shares (bearingNum (p .other)) (bearingDen (p .other)) (bearingNum (p .side)) (bearingDen (p .side))
-      (ratio-bound (p .other) (w .other))
-      (den-by-num (p .side) (w .side))
+      shares (bearingNum (p .member2)) (bearingDen (p .member2)) (bearingNum (p .member1)) (bearingDen (p .member1))
+      (ratio-bound (p .member2) (w .member2))
+      (den-by-num (p .member1) (w .member1))
 
   moment-low : 3240000 ≤ yieldMomentOf (p .diameter) (p .steel)
   moment-low =
@@ -93,33 +92,33 @@ module _ (p : Plane) (w : PlaneWithin p) where
   second-floor : 1000 ≤ secondOf p
   unfolding secondOf
   second-floor =
-      wedge-floor (forceOf (p .diameter) (p .side)) (bearingDen (p .side)) (crossed (p .other) (p .side)) (crossSum p)
-      (den-positive (p .side) (w .side))
+      wedge-floor (forceOf (p .diameter) (p .member1)) (bearingDen (p .member1)) (crossed (p .member2) (p .member1)) (crossSum p)
+      (den-positive (p .member1) (w .member1))
       (sum-positive p w)
-      (le-add-left (crossed (p .other) (p .side)) (crossed (p .side) (p .other)))
-      (whole (crossed (p .side) (p .other)) (crossed (p .other) (p .side)) side-share)
-      (force-low (p .diameter) (p .side) (w .dowel .diameter-low) (w .dowel .diameter-high) (w .side))
+      (le-add-left (crossed (p .member2) (p .member1)) (crossed (p .member1) (p .member2)))
+      (whole (crossed (p .member1) (p .member2)) (crossed (p .member2) (p .member1)) side-share)
+      (force-low (p .diameter) (p .member1) (w .dowel .diameter-low) (w .dowel .diameter-high) (w .member1))
     where
       whole : (u v : ℕ) → u ≤ 7 * v → u + v ≤ 8 * v
       whole u v h = omega arith
 
   third-by : (b : Bool) → 1000 ≤ cond b
-      (wedgeOf (forceOf (p .diameter) (p .other)) (bearingDen (p .other))
-      (shareRootOf (crossed (p .side) (p .other)) (crossSum p)))
-      (halfOf (forceOf (p .diameter) (p .other)) (bearingDen (p .other)))
+      (wedgeOf (forceOf (p .diameter) (p .member2)) (bearingDen (p .member2))
+      (shareRootOf (crossed (p .member1) (p .member2)) (crossSum p)))
+      (halfOf (forceOf (p .diameter) (p .member2)) (bearingDen (p .member2)))
   third-by true =
-      wedge-floor (forceOf (p .diameter) (p .other)) (bearingDen (p .other)) (crossed (p .side) (p .other)) (crossSum p)
-      (den-positive (p .other) (w .other))
+      wedge-floor (forceOf (p .diameter) (p .member2)) (bearingDen (p .member2)) (crossed (p .member1) (p .member2)) (crossSum p)
+      (den-positive (p .member2) (w .member2))
       (sum-positive p w)
-      (le-add-right (crossed (p .side) (p .other)) (crossed (p .other) (p .side)))
-      (whole (crossed (p .other) (p .side)) (crossed (p .side) (p .other)) other-share)
-      (force-low (p .diameter) (p .other) (w .dowel .diameter-low) (w .dowel .diameter-high) (w .other))
+      (le-add-right (crossed (p .member1) (p .member2)) (crossed (p .member2) (p .member1)))
+      (whole (crossed (p .member2) (p .member1)) (crossed (p .member1) (p .member2)) other-share)
+      (force-low (p .diameter) (p .member2) (w .dowel .diameter-low) (w .dowel .diameter-high) (w .member2))
     where
       whole : (u v : ℕ) → u ≤ 7 * v → v + u ≤ 8 * v
       whole u v h = omega arith
   third-by false =
-      half-floor (forceOf (p .diameter) (p .other)) (bearingDen (p .other)) (den-positive (p .other) (w .other))
-      (force-low (p .diameter) (p .other) (w .dowel .diameter-low) (w .dowel .diameter-high) (w .other))
+      half-floor (forceOf (p .diameter) (p .member2)) (bearingDen (p .member2)) (den-positive (p .member2) (w .member2))
+      (force-low (p .diameter) (p .member2) (w .dowel .diameter-low) (w .dowel .diameter-high) (w .member2))
 
   third-floor : 1000 ≤ thirdOf p
   unfolding thirdOf
@@ -132,15 +131,15 @@ module _ (p : Plane) (w : PlaneWithin p) where
       le-min
       (le-min
       (first-floor (dowelFactor (p .diameter)) (yieldMomentOf (p .diameter) (p .steel))
-      (bearingNum (p .side) * bearingNum (p .other))
+      (bearingNum (p .member1) * bearingNum (p .member2))
       (crossSum p)
-      (firstOf (dowelFactor (p .diameter)) (yieldMomentOf (p .diameter) (p .steel)) (bearingNum (p .side) * bearingNum (p .other)) (crossSum p))
+      (firstOf (dowelFactor (p .diameter)) (yieldMomentOf (p .diameter) (p .steel)) (bearingNum (p .member1) * bearingNum (p .member2)) (crossSum p))
       (factor-low (p .diameter) (w .dowel .diameter-low) (w .dowel .diameter-high))
       moment-low
       sums
       (sum-positive p w)
       (radicand-root (dowelFactor (p .diameter)) (yieldMomentOf (p .diameter) (p .steel))
-      (bearingNum (p .side) * bearingNum (p .other))
+      (bearingNum (p .member1) * bearingNum (p .member2))
       (crossSum p)
       0
       (sum-positive p w)

@@ -1,9 +1,8 @@
 -- R is at most 12,000,000 N for every plane within the ranges: crude, and what the use needs from above.
--- Assumes nothing.
 use Prim.Native.Nat.{ℕ, _*_, _-_, _≤_}
 use native.Mathlib.Nat.{mul-le-mul, mul-le-mul-right, add-sub-of-le, le-of-mul-le-mul-right}
 use native.Mathlib.Omega.{arith}
-use Rattle.strength.specs.declared.plane.Member.{Member}
+use Rattle.strength.specs.declared.plane.Timber.{Timber}
 use Rattle.strength.specs.declared.plane.Plane.{Plane}
 use Rattle.strength.specs.Fraction.{Fraction, _over_, whole, _⊗_}
 use Rattle.strength.specs.Shear.{bearing, f1, bearingForce, AtMostR, MemberWithin, PlaneWithin}
@@ -11,7 +10,7 @@ use Rattle.strength.specs.Working.{bearingNum, bearingDen}
 use Rattle.strength.proofs.Bearings.{bearing-is, side-force-positive}
 
 -- a bearing strength is at most 1,000 N/mm²
-module _ (d : ℕ) (m : Member) (w : MemberWithin m) where
+module _ (d : ℕ) (m : Timber) (w : MemberWithin m) where
   divisor-low : 990 * m .total ≤ bearingDen m
   divisor-low =
       omega (arith, mul-le-mul-right (m .total - m .along) (w .k90-low), add-sub-of-le (w .angle))
@@ -32,8 +31,8 @@ force-most d t a hd ht ma = omega (arith, mul-le-mul (mul-le-mul hd ht) ma)
 
 pub at-most-meganewtons : (p : Plane) → PlaneWithin p → (c : ℕ) → AtMostR p (c over 1000) → c ≤ 12000000000
 at-most-meganewtons p w c low =
-    let K = bearingForce (p .diameter) (p .side) in
+    let K = bearingForce (p .diameter) (p .member1) in
     let most : K .num ≤ 12000000 * K .den =
-    force-most (p .diameter) (p .side .thickness) (f1 p) (w .dowel .diameter-high) (w .side .thickness-high)
-    (bearing-most (p .diameter) (p .side) (w .side)) in
+    force-most (p .diameter) (p .member1 .thickness) (f1 p) (w .dowel .diameter-high) (w .member1 .thickness-high)
+    (bearing-most (p .diameter) (p .member1) (w .member1)) in
     le-of-mul-le-mul-right {k = K .den} (omega (arith, low .second .within, most)) (side-force-positive p w .den)

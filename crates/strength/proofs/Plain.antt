@@ -1,5 +1,4 @@
 -- Each test of 01, at c thousandths, as an inequality of whole numbers.
--- Assumes nothing.
 use Prim.Native.Nat.{ℕ, _+_, _*_, _-_, _^_, _≤_, _<_}
 use native.Mathlib.Nat.{mul-pos, mul-le-mul-right, le-of-mul-le-mul-right, one-le-pow, add-sub-of-le, mul-assoc, pow-suc, pow-zero}
 use native.Mathlib.Omega.{arith}

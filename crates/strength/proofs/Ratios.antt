@@ -1,5 +1,4 @@
 -- Laws of nonnegative fractions: equal fractions, order, powers. A denominator is cancelled only where it is above 0.
--- Assumes nothing.
 use Prim.Native.Nat.{ℕ, _*_, _^_, _<_}
 use native.Mathlib.Nat.{mul-le-mul-right, le-of-mul-le-mul-right, mul-pos, pow-le-pow-left, one-le-pow, eq-of-mul-eq-mul-right}
 use native.Mathlib.Omega.{arith}

@@ -1,5 +1,4 @@
 -- A number made in an array of zeros: it fits where it has no more bits than the array, and then the array holds it.
--- Assumes nothing.
 use Prim.Native.Nat.{ℕ, _+_, _*_, _/_, _^_, _<_}
 use native.Mathlib.Nat.{zero-add, div-eq-of-lt-le}
 use mathlib.Core.Path.{_≡_, refl, _∙_, sym, ap}

@@ -1,5 +1,4 @@
 -- What the ranges make of the numbers worked with: none is 0, none is too large or too small.
--- Assumes nothing.
 use Prim.Native.Nat.{ℕ, _+_, _*_, _-_, _^_, _≤_, _<_}
 use native.Mathlib.Nat.{
   mul-pos,
@@ -18,17 +17,32 @@ use native.Mathlib.Omega.{arith}
 use mathlib.Core.Path.{_≡_, ap}
 use lib.Dec.{lit<, lit≤}
 use lib.Pow.{pow-add}
-use Rattle.strength.specs.declared.plane.Member.{Member}
+use Rattle.strength.specs.declared.plane.Timber.{Timber}
 use Rattle.strength.specs.declared.plane.Plane.{Plane}
 use Rattle.strength.specs.Roots.{FifthRoot}
+use Rattle.strength.specs.Leaves.{BearingWithin}
 use Rattle.strength.specs.Shear.{MemberWithin, PlaneWithin}
 use Rattle.strength.specs.Working.{bearingNum, bearingDen, crossSum, dowelFactor, forceOf, yieldToTheFifth, yieldMomentOf}
 use Rattle.wide.proofs.Bits.{product-bits, sum-bits}
 use Rattle.wide.proofs.Powers.{mul-pow, pow-lt-back}
 use Rattle.strength.proofs.Greatest.{fifth-root-of}
 
+-- numerator and denominator of a bearing fit 73 bits
+module _ {density k90 along total : ℕ} (w : BearingWithin density k90 along total) where
+  pub num-short : density * total < 2 ^ 73
+  num-short = product-bits 11 62 (omega (arith, w .density-high)) (w .force-high)
+
+  pub den-most : k90 * (total - along) + 1000 * along ≤ 1800 * total
+  den-most = go (total - along) (omega (arith, w .angle))
+    where
+      go : (b : ℕ) → along + b ≡ total → k90 * b + 1000 * along ≤ 1800 * total
+      go b e = omega (arith, mul-le-mul-right b (w .k90-high))
+
+  pub den-short : k90 * (total - along) + 1000 * along < 2 ^ 73
+  den-short = lt-of-le-of-lt den-most (product-bits 11 62 (lit< tt) (w .force-high))
+
 -- the ranges make the bearings' ratios: 9 n ≤ 10 D
-module _ (m : Member) (w : MemberWithin m) where
+module _ (m : Timber) (w : MemberWithin m) where
   pub num-positive : 0 < bearingNum m
   num-positive = mul-pos (omega (arith, w .density-low)) (w .force)
 
@@ -48,17 +62,22 @@ module _ (m : Member) (w : MemberWithin m) where
   pub ratio-bound : 9 * bearingNum m ≤ 10 * bearingDen m
   ratio-bound = omega (arith, mul-le-mul-right (m .total) (w .density-high), den-low)
 
+  within : BearingWithin (m .density) (m .k90) (m .along) (m .total)
+  within = record {
+    density-high = w .density-high;
+    k90-high = w .k90-high;
+    angle = w .angle;
+    force-high = w .force-high;
+  }
+
   pub num-bits : bearingNum m < 2 ^ 73
-  num-bits = product-bits 11 62 (omega (arith, w .density-high)) (w .force-high)
+  num-bits = num-short within
 
   pub den-high : bearingDen m ≤ 1800 * m .total
-  den-high = go (m .total - m .along) split
-    where
-      go : (b : ℕ) → m .along + b ≡ m .total → m .k90 * b + 1000 * m .along ≤ 1800 * m .total
-      go b e = omega (arith, mul-le-mul-right b (w .k90-high))
+  den-high = den-most within
 
   pub den-bits : bearingDen m < 2 ^ 73
-  den-bits = lt-of-le-of-lt den-high (product-bits 11 62 (lit< tt) (w .force-high))
+  den-bits = den-short within
 
 -- the dowel's factor
 pub factor-bound : (d : ℕ) → 6 ≤ d → d ≤ 30 → dowelFactor d ≤ 231240
@@ -68,7 +87,7 @@ pub factor-slope : (d : ℕ) → 6 ≤ d → dowelFactor d ≤ 7708 * d
 factor-slope d low = mul-le-mul-right d (mul-le-mul-left {n = 94} 82 (omega arith))
 
 -- 1000 f d t is at most 2^30
-pub force-bound : (d : ℕ) (m : Member) → 6 ≤ d → d ≤ 30 → MemberWithin m → forceOf d m ≤ 1073741824 * bearingDen m
+pub force-bound : (d : ℕ) (m : Timber) → 6 ≤ d → d ≤ 30 → MemberWithin m → forceOf d m ≤ 1073741824 * bearingDen m
 force-bound d m low high w =
     let a : dowelFactor d * m .thickness ≤ 924960000 = mul-le-mul (factor-bound d low high) (w .thickness-high) in
     go (dowelFactor d * m .thickness) (bearingNum m) (bearingDen m) a (ratio-bound m w)
@@ -131,18 +150,18 @@ module _ (d fu : ℕ) (d-low : 6 ≤ d) (d-high : d ≤ 30) (fu-low : 300 ≤ fu
 module _ (p : Plane) (w : PlaneWithin p) where
   pub sum-positive : 0 < crossSum p
   sum-positive =
-      omega (arith, mul-pos (num-positive (p .side) (w .side)) (den-positive (p .other) (w .other)))
+      omega (arith, mul-pos (num-positive (p .member1) (w .member1)) (den-positive (p .member2) (w .member2)))
 
   -- 9 n1 n2 ≤ 10 S
-  pub product-bound : 9 * (bearingNum (p .side) * bearingNum (p .other)) ≤ 10 * crossSum p
+  pub product-bound : 9 * (bearingNum (p .member1) * bearingNum (p .member2)) ≤ 10 * crossSum p
   product-bound =
-      go (bearingNum (p .side)) (bearingDen (p .side)) (bearingNum (p .other)) (bearingDen (p .other))
-      (ratio-bound (p .side) (w .side))
+      go (bearingNum (p .member1)) (bearingDen (p .member1)) (bearingNum (p .member2)) (bearingDen (p .member2))
+      (ratio-bound (p .member1) (w .member1))
     where
       go : (n1 D1 n2 D2 : ℕ) → 9 * n1 ≤ 10 * D1 → 9 * (n1 * n2) ≤ 10 * (n1 * D2 + n2 * D1)
       go n1 D1 n2 D2 h = omega (arith, mul-le-mul-right n2 h)
 
   pub sum-high : crossSum p < 2 ^ 147
   sum-high =
-      sum-bits 146 (product-bits 73 73 (num-bits (p .side) (w .side)) (den-bits (p .other) (w .other)))
-      (product-bits 73 73 (num-bits (p .other) (w .other)) (den-bits (p .side) (w .side)))
+      sum-bits 146 (product-bits 73 73 (num-bits (p .member1) (w .member1)) (den-bits (p .member2) (w .member2)))
+      (product-bits 73 73 (num-bits (p .member2) (w .member2)) (den-bits (p .member1) (w .member1)))

@@ -1,6 +1,5 @@
 -- What the routines promise of the figures that are free within a bracket: the bracket is the claim. `is` names the figure
 -- that is returned, so that equal values give equal figures.
--- Assumes nothing.
 use Prim.Native.Nat.{ℕ, _+_, _/_}
 use mathlib.Core.Path.{_≡_}
 use Rattle.strength.specs.declared.plane.Plane.{Plane}

@@ -1,5 +1,4 @@
 -- Nonnegative fractions, and no more of them than 01's formulas want. n over 0 is no number: `Proper` says that it is not met.
--- Assumes nothing.
 use Prim.Native.Nat.{ℕ, _+_, _*_, _-_, _^_, _≤_, _<_}
 use mathlib.Core.Path.{_≡_}
 

@@ -1,12 +1,11 @@
 -- What the inner routines ask and hand on: numbers in limbs, with as many bits as their arrays hold. Nobody needs to believe this.
--- Assumes nothing.
 use Prim.Native.Nat.{ℕ, _+_, _*_, _-_, _^_, _≤_, _<_}
 use mathlib.Core.Path.{_≡_}
 use Rattle.wide.specs.Natural.{value}
-use Rattle.strength.specs.declared.plane.Member.{Member}
+use Rattle.strength.specs.declared.plane.Timber.{Timber}
 use Rattle.strength.specs.declared.terms.Bearing.{Bearing}
 use Rattle.strength.specs.declared.terms.Joined.{Joined}
-use Rattle.strength.specs.Working.{bearingNum, bearingDen, crossed}
+use Rattle.strength.specs.Working.{bearingNum, bearingDen}
 
 -- what a member's bearing is made of, with cos²α = along/total
 pub record BearingWithin (density k90 along total : ℕ) : Type 0 where
@@ -20,16 +19,20 @@ pub record BearingOf (density k90 along total : ℕ) (b : Bearing) : Type 0 wher
   pub num : value (b .num) ≡ density * total
   pub den : value (b .den) ≡ k90 * (total - along) + 1000 * along
 
--- what is made of both bearings
-pub record JoinedOf (side other : Member) (j : Joined) : Type 0 where
-  pub num1 : value (j .num1) ≡ bearingNum side
-  pub den1 : value (j .den1) ≡ bearingDen side
-  pub num2 : value (j .num2) ≡ bearingNum other
-  pub den2 : value (j .den2) ≡ bearingDen other
-  pub cross1 : value (j .cross1) ≡ crossed side other
-  pub cross2 : value (j .cross2) ≡ crossed other side
-  pub whole : value (j .whole) ≡ crossed side other + crossed other side
-  pub nums : value (j .nums) ≡ bearingNum side * bearingNum other
+-- what is made of two bearings, num1/den1 and num2/den2
+pub record JoinedFrom (num1 den1 num2 den2 : ℕ) (j : Joined) : Type 0 where
+  pub first-num : value (j .num1) ≡ num1
+  pub first-den : value (j .den1) ≡ den1
+  pub second-num : value (j .num2) ≡ num2
+  pub second-den : value (j .den2) ≡ den2
+  pub cross1 : value (j .cross1) ≡ num1 * den2
+  pub cross2 : value (j .cross2) ≡ num2 * den1
+  pub whole : value (j .whole) ≡ num1 * den2 + num2 * den1
+  pub nums : value (j .nums) ≡ num1 * num2
+
+-- of both members' bearings
+abbrev pub JoinedOf : Timber → Timber → Joined → Type 0
+JoinedOf member1 member2 j = JoinedFrom (bearingNum member1) (bearingDen member1) (bearingNum member2) (bearingDen member2) j
 
 -- two numbers of at most k bits
 pub record Bits (k a b : ℕ) : Type 0 where
@@ -37,10 +40,15 @@ pub record Bits (k a b : ℕ) : Type 0 where
   pub second : b < 2 ^ k
 
 -- a part of a whole
-pub record Part (part whole : ℕ) : Type 0 where
+pub record Portion (part whole : ℕ) : Type 0 where
   pub below : part ≤ whole
   pub positive : 0 < whole
   pub bits : whole < 2 ^ 147
+
+-- s² and c² are such parts
+pub record Parted (j : Joined) : Type 0 where
+  pub s : Portion (value (j .cross2)) (value (j .whole))
+  pub c : Portion (value (j .cross1)) (value (j .whole))
 
 -- what the first term is made of: the dowel's factor k, the yield moment m, the product of the numerators, the sum
 pub record FirstWithin (k m nums whole : ℕ) : Type 0 where

@@ -1,5 +1,4 @@
 -- Whole roots: the greatest whole number whose power is at most a given number.
--- Assumes nothing.
 use Prim.Native.Nat.{ℕ, _+_, _*_, _^_, _≤_, _<_}
 
 -- r is the whole square root of n

@@ -1,32 +1,31 @@
 -- 01, 'Strength of a shear plane': the formulas as printed there, over plain values, and what it is to be at most R.
--- Assumes nothing.
 use Prim.Native.Nat.{ℕ, _-_, _^_, _≤_, _<_}
 use mathlib.Core.Bool.{Bool, true, false}
 use lib.Dec.{eqb}
-use Rattle.strength.specs.declared.plane.Member.{Member}
+use Rattle.strength.specs.declared.plane.Timber.{Timber}
 use Rattle.strength.specs.declared.plane.Plane.{Plane}
 use Rattle.strength.specs.Fraction.{Fraction, _over_, whole, _⊕_, _⊖_, _⊗_, _⊘_, _↑_, _≼_}
 
 -- cos²α: the squared component along the grain over the squared force
-abbrev pub cosSquared : Member → Fraction
+abbrev pub cosSquared : Timber → Fraction
 cosSquared m = m .along over m .total
 
 -- sin²α = 1 - cos²α
-abbrev pub sinSquared : Member → Fraction
+abbrev pub sinSquared : Timber → Fraction
 sinSquared m = (m .total - m .along) over m .total
 
 -- bearing strength f in N/mm²: 0.082 (1 - 0.01 d) density / (k90 sin²α + cos²α) (000, (192) and (193))
-unfoldable pub bearing : ℕ → Member → Fraction
+unfoldable pub bearing : ℕ → Timber → Fraction
 bearing d m =
     82 over 1000 ⊗ ((100 - d) over 100) ⊗ whole (m .density)
     ⊘ (m .k90 over 1000 ⊗ sinSquared m ⊕ cosSquared m)
 
 -- f1 and f2, each member with its own α
 abbrev pub f1 : Plane → Fraction
-f1 p = bearing (p .diameter) (p .side)
+f1 p = bearing (p .diameter) (p .member1)
 
 abbrev pub f2 : Plane → Fraction
-f2 p = bearing (p .diameter) (p .other)
+f2 p = bearing (p .diameter) (p .member2)
 
 -- s² = f2/(f1 + f2)
 abbrev pub sSquared : Plane → Fraction
@@ -41,7 +40,7 @@ abbrev pub AtMostYield : ℕ → ℕ → Fraction → Type 0
 AtMostYield d fu x = x ↑ 5 ≼ (3 over 10 ⊗ whole fu) ↑ 5 ⊗ whole d ↑ 13
 
 -- K = f d t, with t in mm
-abbrev pub bearingForce : ℕ → Member → Fraction
+abbrev pub bearingForce : ℕ → Timber → Fraction
 bearingForce d m = bearing d m ⊗ whole d ⊗ (m .thickness over 10)
 
 -- 2.3^10 (d f1 f2/(f1 + f2))^5 (0.3 fu)^5 d^13
@@ -63,7 +62,7 @@ pub record Wedge (K s² x : Fraction) : Type 0 where
 
 -- x is at most the second, with K = f1 d t1
 abbrev pub AtMostSecond : Plane → Fraction → Type 0
-AtMostSecond p x = Wedge (bearingForce (p .diameter) (p .side)) (sSquared p) x
+AtMostSecond p x = Wedge (bearingForce (p .diameter) (p .member1)) (sSquared p) x
 
 abbrev pub oneOrTwo : Bool → Type 0 → Type 0 → Type 0
 oneOrTwo true one two = one
@@ -73,8 +72,8 @@ oneOrTwo false one two = two
 abbrev pub AtMostThird : Plane → Fraction → Type 0
 AtMostThird p x =
     oneOrTwo (eqb (p .planes) 1)
-    (Wedge (bearingForce (p .diameter) (p .other)) (cSquared p) x)
-    (x ≼ bearingForce (p .diameter) (p .other) ⊘ whole 2)
+    (Wedge (bearingForce (p .diameter) (p .member2)) (cSquared p) x)
+    (x ≼ bearingForce (p .diameter) (p .member2) ⊘ whole 2)
 
 -- x is at most the exact capacity R, the least of the three
 pub record AtMostR (p : Plane) (x : Fraction) : Type 0 where
@@ -87,7 +86,7 @@ abbrev pub AboveR : Plane → Fraction → Type 0
 AboveR p x = AtMostR p x → ⊥
 
 -- the values for which the capacity is worked out
-pub record MemberWithin (m : Member) : Type 0 where
+pub record MemberWithin (m : Timber) : Type 0 where
   pub density-low : 290 ≤ m .density
   pub density-high : m .density ≤ 1100
   pub k90-low : 990 ≤ m .k90
@@ -105,8 +104,8 @@ pub record DowelWithin (d fu : ℕ) : Type 0 where
   pub steel-high : fu ≤ 800
 
 pub record PlaneWithin (p : Plane) : Type 0 where
-  pub side : MemberWithin (p .side)
-  pub other : MemberWithin (p .other)
+  pub member1 : MemberWithin (p .member1)
+  pub member2 : MemberWithin (p .member2)
   pub dowel : DowelWithin (p .diameter) (p .steel)
   pub planes-low : 1 ≤ p .planes
   pub planes-high : p .planes ≤ 2

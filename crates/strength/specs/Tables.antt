@@ -1,5 +1,4 @@
 -- The tables of 01: what a code stands for. A code that a table lacks is `Unlisted`.
--- Assumes nothing.
 use Prim.Native.Nat.{ℕ, _+_, _*_}
 use mathlib.Core.Bool.{cond}
 use mathlib.Core.List.{List, [], _∷_}

@@ -1,10 +1,9 @@
 -- Nobody needs to believe this: the brackets are the claim. It says which figure within its bracket each routine returns, in
 -- the shape of the algorithm, so that equal values give equal figures.
--- Assumes nothing.
 use Prim.Native.Nat.{ℕ, zero, suc, _+_, _*_, _-_, _/_, _^_, min}
 use mathlib.Core.Bool.{Bool, cond}
 use lib.Dec.{leb, eqb}
-use Rattle.strength.specs.declared.plane.Member.{Member}
+use Rattle.strength.specs.declared.plane.Timber.{Timber}
 use Rattle.strength.specs.declared.plane.Plane.{Plane}
 
 -- r with its k lowest bits set as far as the test still passes
@@ -21,18 +20,18 @@ unfoldable pub fifthRootOf : ℕ → ℕ → ℕ
 fifthRootOf n q = greatest 64 (λ r. leb (r ^ 5 * q) n) 0
 
 -- f = 82 (100 - d)/100 bearingNum/bearingDen
-abbrev pub bearingNum : Member → ℕ
+abbrev pub bearingNum : Timber → ℕ
 bearingNum m = m .density * m .total
 
-abbrev pub bearingDen : Member → ℕ
+abbrev pub bearingDen : Timber → ℕ
 bearingDen m = m .k90 * (m .total - m .along) + 1000 * m .along
 
--- s² = crossed other side / crossSum, c² = crossed side other / crossSum
-abbrev pub crossed : Member → Member → ℕ
+-- s² = crossed member2 member1 / crossSum, c² = crossed member1 member2 / crossSum
+abbrev pub crossed : Timber → Timber → ℕ
 crossed a b = bearingNum a * bearingDen b
 
 abbrev pub crossSum : Plane → ℕ
-crossSum p = crossed (p .side) (p .other) + crossed (p .other) (p .side)
+crossSum p = crossed (p .member1) (p .member2) + crossed (p .member2) (p .member1)
 
 -- 100 times 0.082 (1 - 0.01 d) d, times 1000 for k90 in thousandths
 abbrev pub dowelFactor : ℕ → ℕ
@@ -54,7 +53,7 @@ unfoldable pub shareRootOf : ℕ → ℕ → ℕ
 shareRootOf v S = squareRootOf (1152921504606846976 * v / S)
 
 -- 1000 f d t = forceOf / bearingDen
-abbrev pub forceOf : ℕ → Member → ℕ
+abbrev pub forceOf : ℕ → Timber → ℕ
 forceOf d m = dowelFactor d * m .thickness * bearingNum m
 
 -- the second term, and the third for one shear plane, with P/D the force f d t and r the whole root of 2^60 s²
@@ -67,15 +66,15 @@ halfOf P D = P / (2 * D)
 
 unfoldable pub secondOf : Plane → ℕ
 secondOf p =
-    wedgeOf (forceOf (p .diameter) (p .side)) (bearingDen (p .side))
-    (shareRootOf (crossed (p .other) (p .side)) (crossSum p))
+    wedgeOf (forceOf (p .diameter) (p .member1)) (bearingDen (p .member1))
+    (shareRootOf (crossed (p .member2) (p .member1)) (crossSum p))
 
 unfoldable pub thirdOf : Plane → ℕ
 thirdOf p =
     cond (eqb (p .planes) 1)
-    (wedgeOf (forceOf (p .diameter) (p .other)) (bearingDen (p .other))
-    (shareRootOf (crossed (p .side) (p .other)) (crossSum p)))
-    (halfOf (forceOf (p .diameter) (p .other)) (bearingDen (p .other)))
+    (wedgeOf (forceOf (p .diameter) (p .member2)) (bearingDen (p .member2))
+    (shareRootOf (crossed (p .member1) (p .member2)) (crossSum p)))
+    (halfOf (forceOf (p .diameter) (p .member2)) (bearingDen (p .member2)))
 
 -- the capacity of a shear plane in thousandths of a newton
 unfoldable pub capacityOf : Plane → ℕ
@@ -83,7 +82,7 @@ capacityOf p =
     min
     (min
     (firstOf (dowelFactor (p .diameter)) (yieldMomentOf (p .diameter) (p .steel))
-    (bearingNum (p .side) * bearingNum (p .other))
+    (bearingNum (p .member1) * bearingNum (p .member2))
     (crossSum p))
     (secondOf p))
     (thirdOf p)

@@ -65,7 +65,7 @@ fn inside(lo: u64, hi: u64, hint: u64) -> u64
 // The whole fifth root of n/q, known to be at least lo and below hi. The hint is tried first, then numbers that go away from it
 // by step, 2 step, 4 step and so on; where these leave the bracket it is halved. Hint and step decide how many numbers are
 // tried and nothing else.
-pub fn fifth_root_near(n: &[u32], q: &[u32], lo: u64, hi: u64, hint: u64, step: u64) -> u64
+pub(crate) fn fifth_root_near(n: &[u32], q: &[u32], lo: u64, hi: u64, hint: u64, step: u64) -> u64
     requires { ⌜ FifthBracket (value (now n)) (value (now q)) lo hi ⌝ }
     ensures { λ r. ⌜ FifthRoot (value (now (n .entry))) (value (now (q .entry))) r ⌝ }
 {

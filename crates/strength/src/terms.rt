@@ -1,5 +1,5 @@
 // The three terms whose least is the capacity of a shear plane, in whole thousandths of a newton.
-use crate::plane::Member;
+use crate::plane::Timber;
 use crate::roots;
 ghost use mathlib.Core.Path.{_≡_};
 ghost use Prim.Native.Nat.{_+_, _*_, _≤_, min};
@@ -7,7 +7,7 @@ ghost use lib.Dec.{eqb};
 ghost use Rattle.wide.specs.Natural.{value};
 ghost use mathlib.Core.Bool.{cond};
 ghost use Rattle.strength.specs.Shear.{MemberWithin};
-ghost use Rattle.strength.specs.Leaves.{BearingWithin, BearingOf, JoinedOf, Bits, Part, FirstWithin, ForceWithin};
+ghost use Rattle.strength.specs.Leaves.{BearingWithin, BearingOf, JoinedFrom, JoinedOf, Bits, Portion, FirstWithin, ForceWithin};
 ghost use Rattle.strength.specs.Working.{firstOf, shareRootOf, wedgeOf, halfOf};
 
 // 2^30 and 2^60: the unit of the root of s² and c², and its square.
@@ -68,17 +68,11 @@ pub struct Joined {
     pub nums: [u32; 5],
 }
 
-// The bearings of members 1 and 2, each with its own angle and worked out once.
-pub fn join(side: Member, other: Member) -> Joined
-    requires { ⌜ MemberWithin side × MemberWithin other ⌝ }
-    ensures { λ r. ⌜ JoinedOf side other r ⌝ }
+// What is made of two bearings, each worked out once.
+fn crosswise(num1: [u32; 3], den1: [u32; 3], num2: [u32; 3], den2: [u32; 3]) -> Joined
+    requires { ⌜ Bits 73 (value num1) (value den1) × Bits 73 (value num2) (value den2) ⌝ }
+    ensures { λ r. ⌜ JoinedFrom (value num1) (value den1) (value num2) (value den2) r ⌝ }
 {
-    let f1 = bearing_of(side.density, side.k90, side.along, side.total);
-    let f2 = bearing_of(other.density, other.k90, other.along, other.total);
-    let num1 = f1.num;
-    let den1 = f1.den;
-    let num2 = f2.num;
-    let den2 = f2.den;
     let cross1 = product(&num1, &den2);
     let cross2 = product(&num2, &den1);
     let whole = sum(&cross1, &cross2);
@@ -95,9 +89,23 @@ pub fn join(side: Member, other: Member) -> Joined
     }
 }
 
+// The bearings of members 1 and 2, each with its own angle, and what is made of them.
+pub fn join(member1: Timber, member2: Timber) -> Joined
+    requires { ⌜ MemberWithin member1 × MemberWithin member2 ⌝ }
+    ensures { λ r. ⌜ JoinedOf member1 member2 r ⌝ }
+{
+    let f1 = bearing_of(member1.density, member1.k90, member1.along, member1.total);
+    let f2 = bearing_of(member2.density, member2.k90, member2.along, member2.total);
+    let num1 = f1.num;
+    let den1 = f1.den;
+    let num2 = f2.num;
+    let den2 = f2.den;
+    crosswise(num1, den1, num2, den2)
+}
+
 // The whole root of 2^60 part/whole.
 pub fn share_root(part: &[u32; 5], whole: &[u32; 5]) -> u64
-    requires { ⌜ Part (value (now part)) (value (now whole)) ⌝ }
+    requires { ⌜ Portion (value (now part)) (value (now whole)) ⌝ }
     ensures { λ r. ⌜ r ≡ shareRootOf (value (now (part .entry))) (value (now (whole .entry))) ⌝ }
 {
     let mut scaled = [0u32; 7];
@@ -152,7 +160,7 @@ pub fn third_term(
     whole: &[u32; 5],
 ) -> u64
     requires { ⌜ ForceWithin force (value (now num)) (value (now den)) ⌝ }
-    requires { ⌜ Part (value (now part)) (value (now whole)) ⌝ }
+    requires { ⌜ Portion (value (now part)) (value (now whole)) ⌝ }
     ensures { λ r. ⌜ r ≡ cond (eqb planes 1)
         (wedgeOf (force * value (now (num .entry))) (value (now (den .entry)))
         (shareRootOf (value (now (part .entry))) (value (now (whole .entry)))))

@@ -1,7 +1,7 @@
 // Runs the strength of shear planes whose figures are known: joint B of 01, Example 13-1 of 001, and planes worked out by hand.
 use libc::STDOUT_FILENO;
-use strength::plane::Member;
 use strength::plane::Plane;
+use strength::plane::Timber;
 
 fn show(n: u64) {
     io::print_decimal(STDOUT_FILENO, n);
@@ -11,14 +11,14 @@ fn show(n: u64) {
 // Joint B: C24, d 12, S235, t1 60 mm, t2 80 mm, force along the grain: 7,441.033 N.
 fn joint_b() -> u64 {
     strength::capacity::capacity_thousandths(Plane {
-        side: Member {
+        member1: Timber {
             density: 350,
             k90: strength::tables::k90_softwood(12),
             along: 1,
             total: 1,
             thickness: 600,
         },
-        other: Member {
+        member2: Timber {
             density: 350,
             k90: strength::tables::k90_softwood(12),
             along: 1,
@@ -34,14 +34,14 @@ fn joint_b() -> u64 {
 // Joint B with t1 20 mm: the second term decides, 2,510.73 N.
 fn joint_b_thin() -> u64 {
     strength::capacity::capacity(Plane {
-        side: Member {
+        member1: Timber {
             density: 350,
             k90: 1530,
             along: 1,
             total: 1,
             thickness: 200,
         },
-        other: Member {
+        member2: Timber {
             density: 350,
             k90: 1530,
             along: 1,
@@ -57,14 +57,14 @@ fn joint_b_thin() -> u64 {
 // Example 13-1: GL28h, d 16, S235, t 80 mm, one shear plane: M = 145,930 Nmm, 13,445.6 N.
 fn example() -> u64 {
     strength::capacity::capacity(Plane {
-        side: Member {
+        member1: Timber {
             density: 425,
             k90: 1590,
             along: 1,
             total: 1,
             thickness: 800,
         },
-        other: Member {
+        member2: Timber {
             density: 425,
             k90: 1590,
             along: 1,
@@ -80,14 +80,14 @@ fn example() -> u64 {
 // d 10, t1 50 mm, GL28h along x, C24 along y, one shear plane, S355, force (2, 3): s = 7/10 and R = 4,797 N exactly.
 fn rational_second() -> u64 {
     strength::capacity::capacity_thousandths(Plane {
-        side: Member {
+        member1: Timber {
             density: 425,
             k90: 1500,
             along: 4,
             total: 13,
             thickness: 500,
         },
-        other: Member {
+        member2: Timber {
             density: 350,
             k90: 1500,
             along: 9,
@@ -103,14 +103,14 @@ fn rational_second() -> u64 {
 // d 10, C24, t2 20 mm, two shear planes, force along the grain: R = 2,583 N exactly.
 fn rational_third() -> u64 {
     strength::capacity::capacity_thousandths(Plane {
-        side: Member {
+        member1: Timber {
             density: 350,
             k90: 1500,
             along: 1,
             total: 1,
             thickness: 4000,
         },
-        other: Member {
+        member2: Timber {
             density: 350,
             k90: 1500,
             along: 1,

@@ -30,7 +30,7 @@ pub fn u64_at(s: &[u8], at: usize) -> u64
 {
     let low = u32_at(s, at);
     let high = u32_at(s, at + 4);
-    low as u64 + (high as u64) * 4294967296
+    low as u64 + (high as u64) * wide::BASE
 }
 
 // Sixteen limbs.

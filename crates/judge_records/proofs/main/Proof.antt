@@ -1,5 +1,3 @@
--- `judge_records::main` meets its contract.
--- Assumes nothing.
 use Prim.Native.Nat.{_-_, _≤_}
 use borrow.Author.Needs.{needs}
 use Rattle.judge_records.proofs.main.Statement.{statement}

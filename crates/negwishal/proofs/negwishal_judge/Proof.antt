@@ -1,4 +1,4 @@
--- `negwishal_judge` meets its contract: eight stores from place 0 on.
+-- Eight stores from place 0 on.
 use native.Mathlib.Omega.{arith}
 use borrow.Author.Needs.{needs}
 use Prim.Native.Nat.{ℕ}

@@ -1,5 +1,3 @@
--- `is_coordinate` meets its contract.
--- Assumes nothing.
 use borrow.Author.Needs.{needs}
 use mathlib.Core.Path.{_≡_}
 use mir.Syntax.{w32}

@@ -1,5 +1,4 @@
--- `signed` meets its contract: below 2^31 the bits are the number; from there on the difference from -1 is 4,294,967,295 less the bits, which fits.
--- Assumes nothing.
+-- Below 2^31 the bits are the number; from there on the difference from -1 is 4,294,967,295 less the bits, which fits.
 use Prim.Native.Nat.{_-_}
 use borrow.Author.Needs.{needs}
 use lib.IntN.{ℤ, negsuc}

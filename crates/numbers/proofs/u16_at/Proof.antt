@@ -1,5 +1,4 @@
--- `u16_at` meets its contract: each byte is below 256, so the sum fits.
--- Assumes nothing.
+-- Each byte is below 256, so the sum fits.
 use Prim.Native.Nat.{_+_}
 use borrow.Author.Needs.{needs}
 use native.Mathlib.Omega.{arith}

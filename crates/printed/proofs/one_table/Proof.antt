@@ -1,4 +1,4 @@
--- `one_table` meets its contract: at most three cells of each group differ.
+-- At most three cells of each group differ.
 use Prim.Native.Nat.{_≤_, _*_, _-_}
 use mathlib.Core.Path.{_≡_}
 use borrow.Author.Needs.{needs}

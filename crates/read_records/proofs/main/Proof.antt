@@ -1,5 +1,3 @@
--- `read_records::main` meets its contract.
--- Assumes nothing.
 use Prim.Native.Nat.{_-_, _≤_}
 use borrow.Author.Needs.{needs}
 use Rattle.read_records.proofs.main.Statement.{statement}

@@ -1,5 +1,4 @@
 -- `column` is safe: each index is below 64.
--- Assumes nothing.
 use Prim.Native.Nat.{_≤_, _-_}
 use borrow.Author.Needs.{needs}
 use Rattle.spacing_run.proofs.column.Statement.{statement}

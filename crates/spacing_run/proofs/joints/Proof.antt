@@ -1,5 +1,4 @@
 -- `joints` is safe, and ends: k grows and stays below 8,000.
--- Assumes nothing.
 use Prim.Native.Nat.{_≤_, _-_}
 use borrow.Author.Needs.{needs}
 use Rattle.spacing_run.proofs.joints.Statement.{statement}

@@ -1,5 +1,4 @@
 -- `number` is safe: seven digits have 32 bits, with a sign.
--- Assumes nothing.
 use mir.Syntax.{w32}
 use lib.IntN.{pos}
 use mir.Facts.{toZ-pos}

@@ -1,5 +1,4 @@
 -- `rounded` is safe: the product is small.
--- Assumes nothing.
 use native.Mathlib.Nat.{mul-le-mul}
 use native.Mathlib.Omega.{arith}
 use borrow.Author.Needs.{needs}

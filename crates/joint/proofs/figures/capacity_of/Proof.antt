@@ -10,12 +10,12 @@ use Rattle.joint.proofs.figures.capacity_of.Tie as tie
 
 plane-is :
     (c : tie.After-listed) →
-    let side = c .before .before .before in
-    let v = side .before .before .before .args in
+    let member1 = c .before .before .before in
+    let v = member1 .before .before .before .args in
     _≡_ {A = Plane}
     (record {
-      side = side .plane-member .result;
-      other = c .before .before .plane-member2 .result;
+      member1 = member1 .plane-member .result;
+      member2 = c .before .before .plane-member2 .result;
       diameter = v .dowel .diameter;
       steel = c .listed .result;
       planes = v .members .planes;
@@ -23,11 +23,11 @@ plane-is :
     (planeIn (v .members) (v .dowel) (v .total) (v .along1) (v .along2))
 unfolding planeIn
 plane-is c =
-    let side = c .before .before .before in
-    let v = side .before .before .before .args in
+    let member1 = c .before .before .before in
+    let v = member1 .before .before .before .args in
     λ i. record {
-      side = side .plane-member .ensures i;
-      other = c .before .before .plane-member2 .ensures i;
+      member1 = member1 .plane-member .ensures i;
+      member2 = c .before .before .plane-member2 .ensures i;
       diameter = v .dowel .diameter;
       steel = (c .listed .ensures ∙ ap listed (c .before .steel-strength .ensures)) i;
       planes = v .members .planes;

@@ -1,45 +1,39 @@
--- `joint::limits::member_within` meets its contract.
--- Assumes nothing.
 use borrow.Author.Needs.{needs}
 use mathlib.Core.Path.{_≡_}
-use Rattle.joint.specs.Refusal.{between, memberWithin}
+use mir.Syntax.{w32}
+use mir.Val.{ofZ, toZ}
+use Rattle.joint.specs.Refusal.{knownClass, outlineWithin, memberWithin}
 use Rattle.joint.proofs.limits.member_within.Statement.{statement}
 use Rattle.joint.proofs.limits.member_within.Tie as tie
 
-is-known-class-requires : tie.Need-is-known-class-requires
-is-known-class-requires c κs = search needs
-
-cast-is-between : tie.Need-cast-is-between
-cast-is-between c = search needs
-
-is-between-requires : tie.Need-is-between-requires
-is-between-requires c κs = search needs
-
-is-between-requires-2 : tie.Need-is-between-requires-2
-is-between-requires-2 c κs = search needs
-
-outline-within-requires : tie.Need-outline-within-requires
-outline-within-requires c κs = search needs
-
-returns : tie.Need-returns
-unfolding memberWithin
-returns c =
-    let m = c .before .before .before .before .before .before .args .m in
-    let t : c .before .is-between2 .result ≡ between 200 4000 (m .thickness) = c .before .is-between2 .ensures in
-    simp (
-      c .before .before .before .before .is-known-class .ensures,
-      c .before .before .is-between .ensures,
-      t,
-      c .outline-within .ensures,
-    )
-
 pub member-within-spec : {M : Type 1} → statement M
+unfolding memberWithin knownClass outlineWithin
 member-within-spec =
     tie.close
     (tie.spec
-    is-known-class-requires
-    cast-is-between
-    is-between-requires
-    is-between-requires-2
-    outline-within-requires
-    returns)
+    (λ c κs. search needs)
+    (λ c κs. search needs)
+    (λ c κs. search needs)
+    (λ c κs. search needs)
+    (λ c κs. search needs)
+    (λ c κs. search needs)
+    (λ c.
+    let b = c .before .before .before .before .before .before in
+    let d = b .before .before .before .before in
+    let o = d .before .before .before .args .m .outline in
+    let x0 : toZ w32 (ofZ w32 (o .x0)) ≡ o .x0 = search needs in
+    let y0 : toZ w32 (ofZ w32 (o .y0)) ≡ o .y0 = search needs in
+    let x1 : toZ w32 (ofZ w32 (o .x1)) ≡ o .x1 = search needs in
+    let y1 : toZ w32 (ofZ w32 (o .y1)) ≡ o .y1 = search needs in
+    simp (
+      d .before .is-between .ensures,
+      d .is-between2 .ensures,
+      b .is-coordinate .ensures,
+      c .before .before .before .before .is-coordinate2 .ensures,
+      c .before .before .is-coordinate3 .ensures,
+      c .is-coordinate4 .ensures,
+      x0,
+      y0,
+      x1,
+      y1,
+    )))

@@ -1,5 +1,3 @@
--- `joint::limits::outline_empty` meets its contract.
--- Assumes nothing.
 use borrow.Author.Needs.{needs}
 use mathlib.Core.Path.{_≡_}
 use mir.Syntax.{w32}

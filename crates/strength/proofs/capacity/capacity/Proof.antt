@@ -1,5 +1,4 @@
 -- The thousandths rounded down bracket R in newtons.
--- Assumes nothing.
 use borrow.Author.Needs.{needs}
 use mathlib.Core.Path.{_≡_, refl}
 use Prim.Native.Nat.{ℕ, _/_}

@@ -1,5 +1,4 @@
 -- The whole newtons in so many thousandths.
--- Assumes nothing.
 use native.Mathlib.Omega.{arith}
 use Rattle.strength.proofs.capacity.whole_newtons.Statement.{statement}
 use Rattle.strength.proofs.capacity.whole_newtons.Tie as tie

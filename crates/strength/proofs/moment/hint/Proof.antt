@@ -1,5 +1,4 @@
 -- Each product stays in 64 bits.
--- Assumes nothing.
 use borrow.Author.Needs.{needs}
 use native.Mathlib.Nat.{mul-le-mul, lt-of-le-of-lt, le-of-lt, mod-lt}
 use Prim.Native.Nat.{ℕ, _*_, _≤_}

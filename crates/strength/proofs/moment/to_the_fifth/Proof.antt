@@ -1,5 +1,4 @@
 -- Each product in 64 bits is bounded by its factors; (300 fu)^5 d^13 is the square of (300 fu)^2 d^5 times 300 fu d^3.
--- Assumes nothing.
 use borrow.Author.Needs.{needs}
 use native.Mathlib.Omega.{arith}
 use mathlib.Core.Path.{_≡_, refl, _∙_, ap}

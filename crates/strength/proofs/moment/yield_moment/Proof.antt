@@ -1,5 +1,4 @@
 -- The root lies between 2 and 8 times 0.3 fu d^2, and the whole root is that of the definition.
--- Assumes nothing.
 use borrow.Author.Needs.{needs}
 use native.Mathlib.Omega.{arith}
 use mathlib.Core.Path.{_≡_, refl}

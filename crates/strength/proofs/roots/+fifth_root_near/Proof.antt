@@ -1,5 +1,4 @@
 -- A number inside the bracket lo .. hi of the fifth root is tried: the width falls, and the root stays inside.
--- Assumes nothing.
 use borrow.Author.Needs.{needs}
 use borrow.Author.Tests.{leb-true, leb-false}
 use native.Mathlib.Omega.{arith}

@@ -1,5 +1,4 @@
 -- The bracket lo .. hi of the square root is halved: its width falls, and the root stays inside.
--- Assumes nothing.
 use borrow.Author.Needs.{needs}
 use native.Mathlib.Omega.{arith}
 use Prim.Native.Nat.{ℕ, _-_, _<_}

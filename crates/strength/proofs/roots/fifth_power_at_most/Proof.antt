@@ -1,5 +1,4 @@
 -- The square, the fourth, the fifth power and the product are made one after the other; each has as many bits as its factors together.
--- Assumes nothing.
 use borrow.Author.Needs.{needs}
 use mathlib.Core.Path.{_≡_, _∙_, ap}
 use Prim.Native.Nat.{ℕ, _*_, _^_, _<_}

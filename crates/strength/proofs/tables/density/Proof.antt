@@ -1,5 +1,4 @@
 -- Each arm is the table's line; the codes left over are none of the table's.
--- Assumes nothing.
 use mathlib.Core.Path.{ap, sym}
 use borrow.Author.Tests.{ne-eqb}
 use Rattle.strength.specs.Tables.{densityOf}

@@ -1,5 +1,4 @@
 -- k90 is that of the definition, for thin dowels too.
--- Assumes nothing.
 use native.Mathlib.Omega.{arith}
 use borrow.Author.Needs.{needs}
 use Rattle.strength.proofs.tables.k90_softwood.Statement.{statement}

@@ -1,5 +1,4 @@
 -- Numerator and denominator have at most 74 bits, which three limbs hold.
--- Assumes nothing.
 use borrow.Author.Needs.{needs}
 use native.Mathlib.Omega.{arith}
 use mathlib.Core.Path.{_≡_, _∙_, ap, ap₂}

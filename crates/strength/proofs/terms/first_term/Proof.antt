@@ -1,5 +1,4 @@
 -- The numerator has 204 bits, the divisor 151, and the root of their quotient is that of the definition.
--- Assumes nothing.
 use borrow.Author.Needs.{needs}
 use native.Mathlib.Omega.{arith}
 use mathlib.Core.Path.{_≡_, _∙_, ap, ap₂}

@@ -1,60 +1,41 @@
--- Bearings have 73 bits, their products 146; each product is that of the definition.
--- Assumes nothing.
+-- The bearings of the definition, crosswise.
 use borrow.Author.Needs.{needs}
-use mathlib.Core.Path.{_≡_, _∙_, ap₂}
-use Prim.Native.Nat.{ℕ, _+_, _*_, _^_, _<_}
-use Rattle.wide.proofs.Bits.{product-bits}
-use Rattle.strength.specs.Leaves.{Bits}
-use Rattle.strength.specs.Working.{bearingNum, bearingDen}
-use Rattle.strength.proofs.Sizes.{num-bits, den-bits}
+use mathlib.Core.Path.{_≡_}
+use Prim.Native.Nat.{ℕ}
+use Rattle.wide.specs.Natural.{value}
+use Rattle.strength.specs.declared.terms.Bearing.{Bearing}
+use Rattle.strength.specs.declared.terms.Joined.{Joined}
+use Rattle.strength.specs.Leaves.{Bits, BearingWithin, BearingOf, JoinedFrom}
+use Rattle.strength.proofs.Sizes.{num-short, den-short}
 use Rattle.strength.proofs.terms.join.Statement.{statement}
 use Rattle.strength.proofs.terms.join.Tie as tie
 
-short : (a b x y : ℕ) → a ≡ x → b ≡ y → x < 2 ^ 73 → y < 2 ^ 73 → Bits 73 a b
-short a b x y e f h g = record { first = rw e h; second = rw f g }
+short : {density k90 along total : ℕ} {b : Bearing} → BearingOf density k90 along total b → BearingWithin density k90 along total
+    → Bits 73 (value (b .num)) (value (b .den))
+short e w = record { first = rw (e .num) (num-short w); second = rw (e .den) (den-short w) }
 
-times : (r a b x y : ℕ) → r ≡ a * b → a ≡ x → b ≡ y → r ≡ x * y
-times r a b x y e f g = e ∙ ap₂ (λ (u v : ℕ). u * v) f g
+joined : {a b c d x y z w : ℕ} {j : Joined} → JoinedFrom a b c d j → a ≡ x → b ≡ y → c ≡ z → d ≡ w → JoinedFrom x y z w j
+joined h ea eb ec ed = rw (← ea, ← eb, ← ec, ← ed) h
 
-product-is-short : (r x y : ℕ) → r ≡ x * y → x < 2 ^ 73 → y < 2 ^ 73 → r < 2 ^ 146
-product-is-short r x y e h g = rw e (product-bits 73 73 h g)
+bearing-of-requires : tie.Need-bearing-of-requires
+bearing-of-requires c κs = search needs
+
+bearing-of-requires-2 : tie.Need-bearing-of-requires-2
+bearing-of-requires-2 c κs = search needs
+
+crosswise-requires : tie.Need-crosswise-requires
+crosswise-requires c κs =
+    let b = c .before .before .before .before .bearing-of2 .ensures in
+    let a = c .before .before .before .before .before .bearing-of .ensures in
+    (short a (search needs), short b (search needs))
 
 returns : tie.Need-returns
 returns c =
-    let side = c .before .before .before .before .before .before .before .before .before .before .before .before .before .before .before .before .before .before .args .side in
-    let other = c .before .before .before .before .before .before .before .before .before .before .before .before .before .before .before .before .before .before .args .other in
-    let a = c .before .before .before .before .before .before .before .before .before .before .before .before .before .before .before .before .before .bearing-of .ensures in
-    let b = c .before .before .before .before .before .before .before .before .before .before .before .before .before .before .before .before .bearing-of2 .ensures in
-    let ab = times _ _ _ (bearingNum side) (bearingDen other) (c .before .before .before .before .before .before .before .before .before .product .ensures) (a .num) (b .den) in
-    let ba = times _ _ _ (bearingNum other) (bearingDen side) (c .before .before .before .before .before .before .product2 .ensures) (b .num) (a .den) in
-    record {
-      num1 = a .num;
-      den1 = a .den;
-      num2 = b .num;
-      den2 = b .den;
-      cross1 = ab;
-      cross2 = ba;
-      whole = c .before .before .before .sum .ensures ∙ ap₂ (λ (u v : ℕ). u + v) ab ba;
-      nums = times _ _ _ (bearingNum side) (bearingNum other) (c .product3 .ensures) (a .num) (b .num);
-    }
+    let b = c .before .before .before .before .before in
+    let a = b .before in
+    joined (c .crosswise .ensures) (a .bearing-of .ensures .num) (a .bearing-of .ensures .den) (b .bearing-of2 .ensures .num)
+    (b .bearing-of2 .ensures .den)
 
 pub join-spec : {M : Type 1} → statement M
 join-spec =
-    tie.close
-    (tie.spec
-    (λ c κs. search needs)
-    (λ c κs. search needs)
-    (λ c κs. short _ _ _ _ (c .before .before .before .before .before .before .before .bearing-of .ensures .num) (c .before .before .before .before .before .before .bearing-of2 .ensures .den) (num-bits _ (c .before .before .before .before .before .before .before .before .pre .0)) (den-bits _ (c .before .before .before .before .before .before .before .before .pre .1)))
-    (λ c κs. short _ _ _ _ (c .before .before .before .before .before .before .before .before .before .bearing-of2 .ensures .num) (c .before .before .before .before .before .before .before .before .before .before .bearing-of .ensures .den) (num-bits _ (c .before .before .before .before .before .before .before .before .before .before .before .pre .1)) (den-bits _ (c .before .before .before .before .before .before .before .before .before .before .before .pre .0)))
-    (λ c κs. record {
-      first =
-          product-is-short _ _ _ (times _ _ _ _ _ (c .before .before .before .before .before .product .ensures) (c .before .before .before .before .before .before .before .before .before .before .before .before .before .bearing-of .ensures .num) (c .before .before .before .before .before .before .before .before .before .before .before .before .bearing-of2 .ensures .den))
-          (num-bits _ (c .before .before .before .before .before .before .before .before .before .before .before .before .before .before .pre .0))
-          (den-bits _ (c .before .before .before .before .before .before .before .before .before .before .before .before .before .before .pre .1));
-      second =
-          product-is-short _ _ _ (times _ _ _ _ _ (c .before .before .product2 .ensures) (c .before .before .before .before .before .before .before .before .before .before .before .before .bearing-of2 .ensures .num) (c .before .before .before .before .before .before .before .before .before .before .before .before .before .bearing-of .ensures .den))
-          (num-bits _ (c .before .before .before .before .before .before .before .before .before .before .before .before .before .before .pre .1))
-          (den-bits _ (c .before .before .before .before .before .before .before .before .before .before .before .before .before .before .pre .0));
-    })
-    (λ c κs. short _ _ _ _ (c .before .before .before .before .before .before .before .before .before .before .before .before .before .before .before .before .bearing-of .ensures .num) (c .before .before .before .before .before .before .before .before .before .before .before .before .before .before .before .bearing-of2 .ensures .num) (num-bits _ (c .before .before .before .before .before .before .before .before .before .before .before .before .before .before .before .before .before .pre .0)) (num-bits _ (c .before .before .before .before .before .before .before .before .before .before .before .before .before .before .before .before .before .pre .1)))
-    returns)
+    tie.close (tie.spec bearing-of-requires bearing-of-requires-2 crosswise-requires returns)

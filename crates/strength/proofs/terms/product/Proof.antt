@@ -1,5 +1,4 @@
 -- Two numbers of 73 bits make one of 146, which five limbs hold.
--- Assumes nothing.
 use borrow.Author.Needs.{needs}
 use Rattle.wide.proofs.Bits.{product-bits}
 use Rattle.strength.proofs.Room.{room, made}

@@ -1,5 +1,4 @@
 -- 2^60 part/whole has at most 60 bits, so the root is that of the definition.
--- Assumes nothing.
 use borrow.Author.Needs.{needs}
 use native.Mathlib.Omega.{arith}
 use mathlib.Core.Path.{_≡_, _∙_, ap}

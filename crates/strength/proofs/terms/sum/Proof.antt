@@ -1,5 +1,4 @@
 -- Two numbers of 146 bits make one of 147, which five limbs hold.
--- Assumes nothing.
 use borrow.Author.Needs.{needs}
 use mathlib.Core.Path.{_∙_, ap}
 use Prim.Native.Nat.{ℕ, _+_}

@@ -1,4 +1,4 @@
--- `has_room` meets its contract: what it answers true for is below the largest number of so many limbs.
+-- What it answers true for is below the largest number of so many limbs.
 use mathlib.Core.Path.{_≡_}
 use Rattle.wide.specs.Natural.{value}
 use Prim.Native.Nat.{ℕ}

@@ -1,4 +1,4 @@
--- `has_short_quotient` meets its contract: 0, 0, 1 is 2^64, and 2^64 b is compared with a.
+-- 0, 0, 1 is 2^64, and 2^64 b is compared with a.
 use Rattle.wide_run.proofs.Room.{room-product, slice-bits}
 use Rattle.wide.proofs.Tests.{test-lt}
 use Rattle.wide.specs.Natural.{value}

@@ -1,0 +1,3 @@
+pub mod Decimal
+pub mod Adding
+pub mod Lines

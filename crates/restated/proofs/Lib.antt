@@ -1,4 +1,0 @@
-pub mod SpacingSame
-pub mod RowsSame
-pub mod UseSame
-pub mod ClaimSame
