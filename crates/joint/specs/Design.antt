@@ -6,8 +6,8 @@ use mathlib.Core.Logic.{_⊎_}
 use Rattle.strength.specs.Fraction.{Fraction}
 use Rattle.strength.specs.declared.plane.Plane.{Plane}
 
--- A member that carries a part of the force: c, the size of the whole force's component along it, and 'n and a1 are those of a row of it', where a row of
--- one dowel stands with n = 1 and every a1.
+-- A member that carries a part of the force: c, the size of the whole force's component along it, and 'n and a1 are those of a row of it',
+-- where a row of one dowel stands with n = 1 and every a1.
 pub record Carrier : Type 1 where
   pub along : ℕ
   pub row : ℕ → ℕ → Type 0
