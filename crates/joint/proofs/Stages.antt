@@ -21,7 +21,7 @@ use Rattle.joint.specs.Layout.{membersIn, dowelIn, positionsIn, loadsIn,
 use Rattle.joint.specs.Refusal.{refusal1, refusal2, refusal3, refusal4, refusal5, refusal6, positionsLength, oneIf, once, firstHolding, scriptTests}
 use Rattle.joint.specs.Refusal.{between, memberWithin, membersWithin, dowelWithin, positionsWithin, loadsWithin, fieldsWithin}
 use Rattle.joint.specs.Refusal.{outlineEmpty, emptyOutlines, noForce}
-use Rattle.joint.specs.Stage.{Bounded, present, partAt, found, partTests, partsOf, layout, layoutNumber, Stretch, LaidOut}
+use Rattle.joint.specs.Stage.{Parted, Bounded, present, partAt, found, partTests, partsOf, layout, layoutNumber, Stretch, LaidOut}
 use Rattle.joint.specs.Stage.{stage, stageNumber, valueTests}
 use Rattle.joint.specs.declared.Members.{Members}
 use Rattle.joint.specs.declared.Dowel.{Dowel}
@@ -86,23 +86,29 @@ sum-is : (s : List ℕ) (k : ℕ) → bound Two s 4 20 (suc k) ≡ pairSum s (su
 unfolding bound
 sum-is s k = rw (offset-is s k, length-is s k)
 
-chain-inside : (s : List ℕ) → chained Two s 4 20 4 ≡ true → (k : ℕ) → k < 4 → pairSum s (suc k) ≤ length s
-chain-inside s h k l = rw (sum-is s k) at (inside Two s 4 20 4 h (suc k) (omega arith))
-
-chain-some : (s : List ℕ) → chained Two s 4 20 4 ≡ true → (k : ℕ) → k < 4 → 0 < pairLength s (suc k)
-chain-some s h k l = rw (length-is s k) at (follow Two s 4 20 4 h k l .some)
-
-pub bounded : (s bounds : List ℕ) {b : Bool} → Read Two s 4 20 4 (replicate 5 0) bounds b → not b ≡ false → Bounded s bounds
-bounded s bounds r h =
-    let right = sym (r .whole) ∙ not-false _ h in
+pub parted : (s : List ℕ) → refusal4 s ≡ false → Parted s
+unfolding refusal4
+parted s h =
+    let right = not-false (chained Two s 4 20 4) h in
     record {
-      start = λ k l.
-          rw (r .bounds)
-          (filled-at _ (replicate 5 0) k 5 (omega arith) (omega arith) ∙ sym (follow Two s 4 20 4 right k l .start) ∙ offset-is s k);
-      end = λ k l. rw (r .bounds) (filled-at _ (replicate 5 0) (suc k) 5 (omega arith) (omega arith) ∙ sum-is s k);
-      some = chain-some s right;
-      inside = chain-inside s right;
+      some = λ k l. rw (length-is s k) at (follow Two s 4 20 4 right k l .some);
+      inside = λ k l. rw (sum-is s k) at (inside Two s 4 20 4 right (suc k) (omega arith));
     }
+
+module _ {s bounds : List ℕ} {b : Bool} (e : Read Two s 4 20 4 (replicate 5 0) bounds b) where
+  four : not b ≡ refusal4 s
+  unfolding refusal4
+  four = rw (e .whole)
+
+  pub bounded : not b ≡ false → Bounded s bounds
+  bounded h =
+      let at = filled-at (bound Two s 4 20) (replicate 5 0) in
+      record {
+        parted = parted s (sym four ∙ h);
+        start = λ k l.
+            rw (e .bounds) (at k 5 (omega arith) (omega arith) ∙ sym (follow Two s 4 20 4 (sym (e .whole) ∙ not-false b h) k l .start) ∙ offset-is s k);
+        end = λ k l. rw (e .bounds) (at (suc k) 5 (omega arith) (omega arith) ∙ sum-is s k);
+      }
 
 -- ---- refusal 5
 module _ (s : List ℕ) (kind : ℕ) where
@@ -132,10 +138,10 @@ module _ {s bounds : List ℕ} (b : Bounded s bounds) where
 
   kind-at : (k : ℕ) → k < 4 → kindOfPair s (suc k) ≡ kindAt k
   unfolding partOfPair
-  kind-at k l = getD-take _ _ 0 0 (b .some k l) ∙ getD-drop (pairOffset s (suc k)) s 0 0 ∙ rw (add-zero, b .start k l)
+  kind-at k l = getD-take _ _ 0 0 (b .parted .some k l) ∙ getD-drop (pairOffset s (suc k)) s 0 0 ∙ rw (add-zero, b .start k l)
 
   pub start-within : (k : ℕ) → k < 4 → getD bounds k 0 < length s
-  start-within k l = omega (arith, b .start k l, b .some k l, b .inside k l)
+  start-within k l = omega (arith, b .start k l, b .parted .some k l, b .parted .inside k l)
 
   pub start-first : (k : ℕ) → k < 4 → getD bounds k 0 ≤ getD bounds (k + 1) 0
   start-first k l = rw add-one (omega (arith, b .start k l, b .end k l))
@@ -226,15 +232,12 @@ pair-in P f s kind = of (eqb (kindOfPair s 1) kind) (eqb (kindOfPair s 2) kind) 
     of false false true = f 2 (omega arith)
     of false false false = f 3 (omega arith)
 
--- ---- refusals 4 to 6, one after the other
+-- ---- refusals 5 and 6, one after the other
 -- a part of a right chain lies within the record, and its length is its pair's
-module _ (s : List ℕ) (h : refusal4 s ≡ false) (kind : ℕ) where
+module _ {s : List ℕ} (h : Parted s) (kind : ℕ) where
   stretch : Stretch s kind (partAt s (pairOfKind s kind))
-  unfolding refusal4 partAt partOfPair
-  stretch = record {
-    inside = pair-in (λ k. pairSum s k ≤ length s) (chain-inside s (not-false (chained Two s 4 20 4) h)) s kind;
-    bytes = refl;
-  }
+  unfolding partAt partOfPair
+  stretch = record { inside = pair-in (λ k. pairSum s k ≤ length s) (h .inside) s kind; bytes = refl }
 
   part-length : length (partOfKind s kind) ≡ pairLength s (pairOfKind s kind)
   unfolding partOfPair partAt
@@ -245,32 +248,20 @@ module _ (s : List ℕ) (h : refusal4 s ≡ false) (kind : ℕ) where
   -- it has bytes where its kind is there
   module _ {r : Part} (e : r ≡ found s kind) where
     no-bytes : eqb (r .bytes) 0 ≡ not (present s kind)
-    unfolding found partAt refusal4
+    unfolding found partAt
     no-bytes = of (present s kind) e
       where
-        some : (k : ℕ) → k < 4 → 0 < pairLength s (suc k)
-        some = chain-some s (not-false (chained Two s 4 20 4) h)
-
         of : (t : Bool) → r ≡ cond t (partAt s (pairOfKind s kind)) (record { start = 0; bytes = 0 }) → eqb (r .bytes) 0 ≡ not t
-        of true q = rw q (ne-eqb _ _ (pair-in (λ k. pairLength s k ≡ 0 → ⊥) (λ k l z. let g = some k l in omega arith) s kind))
+        of true q = rw q (ne-eqb _ _ (pair-in (λ k. pairLength s k ≡ 0 → ⊥) (λ k l z. let g = h .some k l in omega arith) s kind))
         of false q = rw q
 
     found-part : eqb (r .bytes) 0 ≡ false → r ≡ partAt s (pairOfKind s kind)
     unfolding found
     found-part k = let t : present s kind ≡ true = not-false (present s kind) (sym no-bytes ∙ k) in cc
 
-module _ {s bounds : List ℕ} {b : Bool} (e : Read Two s 4 20 4 (replicate 5 0) bounds b) where
-  pub pairs-broken : not b ≡ true → LayoutRefused 4 ≡ layout (firstHolding 4 (partTests s)) (partsOf s)
-  unfolding refusal4 firstHolding layout
-  pairs-broken h = let w = e .whole in let n = not-true b h in cc
-
-  pub pairs-right : not b ≡ false → refusal4 s ≡ false
-  unfolding refusal4
-  pairs-right h = let w = e .whole in let n = not-false b h in cc
-
 -- the parts that were found for the kinds of a right chain
 pub record Looked (s : List ℕ) (p1 p2 p3 p4 : Part) : Type 0 where
-  pub right : refusal4 s ≡ false
+  pub right : Parted s
   pub members : p1 ≡ found s 1
   pub dowel : p2 ≡ found s 2
   pub positions : p3 ≡ found s 3
@@ -278,7 +269,7 @@ pub record Looked (s : List ℕ) (p1 p2 p3 p4 : Part) : Type 0 where
 
 module _ {s : List ℕ} {p1 p2 p3 p4 : Part} (a : Looked s p1 p2 p3 p4) where
   abbrev partsAnswer : Layout
-  partsAnswer = layout (firstHolding 4 (partTests s)) (partsOf s)
+  partsAnswer = layout (firstHolding 5 (partTests s)) (partsOf s)
 
   abbrev missingOne : Bool
   missingOne = eqb (p1 .bytes) 0 || eqb (p2 .bytes) 0 || eqb (p3 .bytes) 0 || eqb (p4 .bytes) 0
@@ -286,12 +277,12 @@ module _ {s : List ℕ} {p1 p2 p3 p4 : Part} (a : Looked s p1 p2 p3 p4) where
   five : refusal5 s ≡ missingOne
   five =
       let r = a .right in
-      rw (no-bytes s r 1 (a .members), no-bytes s r 2 (a .dowel), no-bytes s r 3 (a .positions), no-bytes s r 4 (a .loads))
+      rw (no-bytes r 1 (a .members), no-bytes r 2 (a .dowel), no-bytes r 3 (a .positions), no-bytes r 4 (a .loads))
       (kinds-test s (present s 1) (present s 2) (present s 3) (present s 4) refl refl refl refl)
 
   pub kinds-missing : missingOne ≡ true → LayoutRefused 5 ≡ partsAnswer
   unfolding firstHolding layout
-  kinds-missing k = simp (a .right, five ∙ k)
+  kinds-missing k = simp (five ∙ k)
 
   module _ (k : missingOne ≡ false) where
     abbrev Part-of : Part → ℕ → Type 0
@@ -301,14 +292,14 @@ module _ {s : List ℕ} {p1 p2 p3 p4 : Part} (a : Looked s p1 p2 p3 p4) where
     are =
         let r = a .right in
         let n = none-of (eqb (p1 .bytes) 0) _ _ _ k in (
-          found-part s r 1 (a .members) (n .0),
-          found-part s r 2 (a .dowel) (n .1),
-          found-part s r 3 (a .positions) (n .2),
-          found-part s r 4 (a .loads) (n .3),
+          found-part r 1 (a .members) (n .0),
+          found-part r 2 (a .dowel) (n .1),
+          found-part r 3 (a .positions) (n .2),
+          found-part r 4 (a .loads) (n .3),
         )
 
     pub positions-inside : p3 .start + p3 .bytes ≤ length s
-    positions-inside = rw (are .2) (stretch s (a .right) 3 .inside)
+    positions-inside = rw (are .2) (stretch (a .right) 3 .inside)
 
     -- `part` is the stretch of the positions, and q whether its length is right
     module _ {part : List ℕ} {q : Bool} (f : part ≡ take (p3 .bytes) (drop (p3 .start) s)) (g : q ≡ positionsLength part) where
@@ -319,15 +310,15 @@ module _ {s : List ℕ} {p1 p2 p3 p4 : Part} (a : Looked s p1 p2 p3 p4) where
       unfolding refusal6 partAt partOfPair
       six =
           let r = a .right in
-          rw (g, f, are .0, are .1, are .2, are .3) (simp (part-length s r 1, part-length s r 2, part-length s r 4))
+          rw (g, f, are .0, are .1, are .2, are .3) (simp (part-length r 1, part-length r 2, part-length r 4))
 
       pub wrong-length : not sized ≡ true → LayoutRefused 6 ≡ partsAnswer
       unfolding firstHolding layout
-      wrong-length l = simp (a .right, five ∙ k, six ∙ l)
+      wrong-length l = simp (five ∙ k, six ∙ l)
 
       pub right-lengths : not sized ≡ false → Laid (record { members = p1; dowel = p2; positions = p3; loads = p4 }) ≡ partsAnswer
       unfolding firstHolding layout partsOf
-      right-lengths l = simp (a .right, five ∙ k, six ∙ l) (simp (are .0, are .1, are .2, are .3))
+      right-lengths l = simp (five ∙ k, six ∙ l) (simp (are .0, are .1, are .2, are .3))
 
 -- ---- refusals 1 to 6, one after the other
 module _ (s : List ℕ) where
@@ -348,16 +339,21 @@ module _ (s : List ℕ) where
       unfolding refusal1 refusal2 refusal3 firstHolding layout
       wrong-count h = simp (le-ltb (length s) 20 l, equal v v1, unequal w h)
 
-      pub header-right : m ≡ 4 → layout (firstHolding 4 (partTests s)) (partsOf s) ≡ answer
-      unfolding refusal1 refusal2 refusal3 firstHolding
-      header-right h = simp (le-ltb (length s) 20 l, equal v v1, equal w h)
+      module _ (w4 : m ≡ 4) {bounds : List ℕ} {b : Bool} (e : Read Two s 4 20 4 (replicate 5 0) bounds b) where
+        pub pairs-broken : not b ≡ true → LayoutRefused 4 ≡ answer
+        unfolding refusal1 refusal2 refusal3 firstHolding layout
+        pairs-broken h = simp (le-ltb (length s) 20 l, equal v v1, equal w w4, sym (four e) ∙ h)
+
+        pub header-right : not b ≡ false → layout (firstHolding 5 (partTests s)) (partsOf s) ≡ answer
+        unfolding refusal1 refusal2 refusal3 firstHolding
+        header-right h = simp (le-ltb (length s) 20 l, equal v v1, equal w w4, sym (four e) ∙ h)
 
   -- what is left for the reader of values
   pub laid-out : {r : Layout} {p : Parts} → r ≡ answer → r ≡ Laid p → LaidOut s p
   unfolding refusal6 partsOf positionsLength
   laid-out {r} {p} e h =
       let n = none-holds 0 (scriptTests s) (laid-number _ _ e h) in
-      let four : refusal4 s ≡ false = n .none 3 in
+      let p = parted s (n .none 3) in
       let six : (eqb (length (partOfKind s 1)) 42 && eqb (length (partOfKind s 2)) 3
       && (leb 2 (length (partOfKind s 3)) && eqb (length (partOfKind s 3)) (2 + 8 * u8At (partOfKind s 3) 1))
       && eqb (length (partOfKind s 4)) 11) ≡ true =
@@ -365,10 +361,10 @@ module _ (s : List ℕ) where
       let t = simp and-eq-true-iff at six in
       rw (laid-parts _ _ e h)
       (record {
-        members = stretch s four 1;
-        dowel = stretch s four 2;
-        positions = stretch s four 3;
-        loads = stretch s four 4;
+        members = stretch p 1;
+        dowel = stretch p 2;
+        positions = stretch p 3;
+        loads = stretch p 4;
         members-length = eqb-true _ _ (t .0 .0 .0);
         dowel-length = eqb-true _ _ (t .0 .0 .1);
         positions-length = eqb-true _ _ (t .0 .1 .1);

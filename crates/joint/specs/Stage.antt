@@ -8,7 +8,7 @@ use lib.Dec.{eqb}
 use lib.ListN.{length, getD, take, drop}
 use Rattle.numbers.specs.Numbers.{u8At}
 use Rattle.joint.specs.Layout.{pairOffset, pairLength, pairSum, kindOfPair, pairOfKind, partOfKind}
-use Rattle.joint.specs.Refusal.{refusal4, refusal5, refusal6, fieldsWithin, emptyOutlines, noForce}
+use Rattle.joint.specs.Refusal.{refusal5, refusal6, fieldsWithin, emptyOutlines, noForce}
 use Rattle.joint.specs.declared.Values.{Values}
 use Rattle.joint.specs.declared.Stage.{Stage}
 use Rattle.joint.specs.declared.Stage.the-variants.{Passed, Refused}
@@ -18,12 +18,16 @@ use Rattle.joint.specs.declared.layout.Layout.{Layout}
 use Rattle.joint.specs.declared.layout.Layout.the-variants.{Laid, Refused as LayoutRefused}
 
 -- ---- refusals 1 to 6
--- what a right chain says of its four parts: they are not empty and lie within the record, between bounds k and k + 1
-pub record Bounded (s bounds : List ℕ) : Type 0 where
-  pub start : (k : ℕ) → k < 4 → getD bounds k 0 ≡ pairOffset s (suc k)
-  pub end : (k : ℕ) → k < 4 → getD bounds (suc k) 0 ≡ pairSum s (suc k)
+-- what a right chain says of its four parts: they are not empty and lie within the record
+pub record Parted (s : List ℕ) : Type 0 where
   pub some : (k : ℕ) → k < 4 → 0 < pairLength s (suc k)
   pub inside : (k : ℕ) → k < 4 → pairSum s (suc k) ≤ length s
+
+-- between bounds k and k + 1
+pub record Bounded (s bounds : List ℕ) : Type 0 where
+  pub parted : Parted s
+  pub start : (k : ℕ) → k < 4 → getD bounds k 0 ≡ pairOffset s (suc k)
+  pub end : (k : ℕ) → k < 4 → getD bounds (suc k) 0 ≡ pairSum s (suc k)
 
 -- some part is of the kind
 unfoldable pub present : List ℕ → ℕ → Bool
@@ -37,9 +41,9 @@ partAt s k = record { start = pairOffset s k; bytes = pairLength s k }
 unfoldable pub found : List ℕ → ℕ → Part
 found s kind = cond (present s kind) (partAt s (pairOfKind s kind)) (record { start = 0; bytes = 0 })
 
--- the tests that need more than the header
+-- the tests of the parts
 abbrev pub partTests : List ℕ → List Bool
-partTests s = refusal4 s ∷ refusal5 s ∷ refusal6 s ∷ []
+partTests s = refusal5 s ∷ refusal6 s ∷ []
 
 unfoldable pub partsOf : List ℕ → Parts
 partsOf s = record {

@@ -80,8 +80,8 @@ pub(crate) fn stretch(bytes: &[u8], part: Part) -> &[u8]
 }
 
 // The first part of a kind, by the bounds of the parts; without bytes where there is none.
-fn find_part(bytes: &[u8], bounds: [usize; PAIRS + 1], kind: u8) -> Part
-    requires { ⌜ Bounded (now bytes) bounds ⌝ }
+fn find_part(bytes: &[u8], bounds: &[usize; PAIRS + 1], kind: u8) -> Part
+    requires { ⌜ Bounded (now bytes) (now bounds) ⌝ }
     ensures { λ r. ⌜ r ≡ found (now (bytes .entry)) kind ⌝ }
 {
     let mut k = 0;
@@ -107,22 +107,11 @@ fn positions_length(part: &[u8]) -> bool
     part.len() == POSITIONS_FRONT + POSITION_BYTES * (part[1] as usize)
 }
 
-// Refusals 4 to 6: where four parts have four kinds, each kind is there once.
-fn find_parts(bytes: &[u8]) -> Layout
-    requires { ⌜ 20 ≤ length (now bytes) ⌝ }
-    ensures { λ r. ⌜ r ≡ layout (firstHolding 4 (partTests (now (bytes .entry)))) (partsOf (now (bytes .entry))) ⌝ }
+// Refusals 5 and 6: where four parts have four kinds, each kind is there once.
+fn find_parts(bytes: &[u8], bounds: &[usize; PAIRS + 1]) -> Layout
+    requires { ⌜ Bounded (now bytes) (now bounds) ⌝ }
+    ensures { λ r. ⌜ r ≡ layout (firstHolding 5 (partTests (now (bytes .entry)))) (partsOf (now (bytes .entry))) ⌝ }
 {
-    let mut bounds = [0usize; PAIRS + 1];
-    if !chain::read(
-        bytes,
-        Width::Two,
-        FIRST_PAIR,
-        HEADER_BYTES,
-        PAIRS,
-        &mut bounds,
-    ) {
-        return Layout::Refused(4);
-    }
     let members = find_part(bytes, bounds, MEMBERS);
     let dowel = find_part(bytes, bounds, DOWEL);
     let positions = find_part(bytes, bounds, POSITIONS);
@@ -160,5 +149,16 @@ pub(crate) fn read_layout(bytes: &[u8]) -> Layout
     if count != PAIRS {
         return Layout::Refused(3);
     }
-    find_parts(bytes)
+    let mut bounds = [0usize; PAIRS + 1];
+    if !chain::read(
+        bytes,
+        Width::Two,
+        FIRST_PAIR,
+        HEADER_BYTES,
+        PAIRS,
+        &mut bounds,
+    ) {
+        return Layout::Refused(4);
+    }
+    find_parts(bytes, &bounds)
 }

@@ -10,11 +10,11 @@ use Rattle.joint.proofs.layout.find_part.Statement.{statement}
 use Rattle.joint.proofs.layout.find_part.Tie as tie
 
 abbrev Inv-loop : tie.InvT-loop
-Inv-loop bytes kind bounds k₀ k =
+Inv-loop bytes bounds kind k₀ k =
     (k ≤ 4) × ((j : ℕ) → j < k → getD bytes (getD bounds j 0) 0 ≡ kind → ⊥)
 
 abbrev μ-loop : tie.MeasureT-loop
-μ-loop bytes kind bounds k₀ k = 4 - k
+μ-loop bytes bounds kind k₀ k = 4 - k
 
 pub find-part-spec : {M : Type 1} → statement M
 find-part-spec =
@@ -33,5 +33,5 @@ find-part-spec =
     (λ c. search part-found)
     (λ c. search needs)
     (λ c. search needs)
-    (λ c. (search needs, below-more _ _ (c .before .before .before .loop .inv .1) (c .if1 .left)))
+    (λ c. (search needs, below-more _ _ (c .before .before .before .before .loop .inv .1) (c .if1 .left)))
     (λ c. part-nowhere (c .before .before .pre) (λ j l. c .before .loop .inv .1 j (omega arith))))

@@ -1,17 +1,17 @@
 -- Each return by the law of its test.
 use borrow.Author.Needs.{needs}
 use denote.Ref.{now}
-use Rattle.joint.proofs.Stages.{bounded, pairs-broken, pairs-right, Looked, kinds-missing, positions-inside, wrong-length, right-lengths}
+use Rattle.joint.proofs.Stages.{Looked, kinds-missing, positions-inside, wrong-length, right-lengths}
 use Rattle.joint.proofs.layout.find_parts.Statement.{statement}
 use Rattle.joint.proofs.layout.find_parts.Tie as tie
 
 looked : (c : tie.After-find-part4) → let b = c .before .before .before in
-    Looked (now (b .before .before .before .before .before .before .args .bytes)) (b .find-part .result) (c .before .before .find-part2 .result)
+    Looked (now (b .before .before .args .bytes)) (b .find-part .result) (c .before .before .find-part2 .result)
     (c .before .find-part3 .result) (c .find-part4 .result)
 looked c =
     let b = c .before .before .before in
     record {
-      right = pairs-right (b .before .before .before .read .ensures) (b .before .if1 .left);
+      right = b .before .before .pre .parted;
       members = b .find-part .ensures;
       dowel = c .before .before .find-part2 .ensures;
       positions = c .before .find-part3 .ensures;
@@ -22,25 +22,22 @@ pub find-parts-spec : {M : Type 1} → statement M
 find-parts-spec =
     tie.close
     (tie.spec
-    (λ c. search needs)
     (λ c κs. search needs)
-    (λ c. pairs-broken (c .before .before .read .ensures) (c .if1 .taken))
-    (λ c κs. search bounded)
-    (λ c κs. search bounded)
-    (λ c κs. search bounded)
-    (λ c κs. search bounded)
-    (λ c. kinds-missing (looked (c .before .before .before .before .before)) (c .if2 .taken))
+    (λ c κs. search needs)
+    (λ c κs. search needs)
+    (λ c κs. search needs)
+    (λ c. kinds-missing (looked (c .before .before .before .before .before)) (c .if1 .taken))
     (λ c κs.
     let b = c .before .before in
-    positions-inside (looked (b .before .before .before .before .before)) (b .if2 .left))
+    positions-inside (looked (b .before .before .before .before .before)) (b .if1 .left))
     (λ c κs. search needs)
     (λ c.
     let s = c .before .before .before in
     let b = s .before .before .before in
-    wrong-length (looked (b .before .before .before .before .before)) (b .if2 .left) (s .stretch .ensures) (c .before .before .positions-length .ensures)
-    (c .if3 .taken))
+    wrong-length (looked (b .before .before .before .before .before)) (b .if1 .left) (s .stretch .ensures) (c .before .before .positions-length .ensures)
+    (c .if2 .taken))
     (λ c.
     let s = c .before .before .before in
     let b = s .before .before .before in
-    right-lengths (looked (b .before .before .before .before .before)) (b .if2 .left) (s .stretch .ensures) (c .before .before .positions-length .ensures)
-    (c .if3 .left)))
+    right-lengths (looked (b .before .before .before .before .before)) (b .if1 .left) (s .stretch .ensures) (c .before .before .positions-length .ensures)
+    (c .if2 .left)))
