@@ -329,6 +329,12 @@ module _ (s : List ℕ) where
   unfolding refusal1 firstHolding layout
   too-short l = simp (lt-ltb (length s) 20 l)
 
+  -- refusals 1 to 3 do not hold
+  pub record HeaderRight : Type 0 where
+    pub one : refusal1 s ≡ false
+    pub two : refusal2 s ≡ false
+    pub three : refusal3 s ≡ false
+
   module _ (l : 20 ≤ length s) {n : ℕ} (v : n ≡ version s) where
     pub wrong-version : (n ≡ 1 → ⊥) → LayoutRefused 2 ≡ answer
     unfolding refusal1 refusal2 firstHolding layout
@@ -339,14 +345,18 @@ module _ (s : List ℕ) where
       unfolding refusal1 refusal2 refusal3 firstHolding layout
       wrong-count h = simp (le-ltb (length s) 20 l, equal v v1, unequal w h)
 
-      module _ (w4 : m ≡ 4) {bounds : List ℕ} {b : Bool} (e : Read Two s 4 20 4 (replicate 5 0) bounds b) where
-        pub pairs-broken : not b ≡ true → LayoutRefused 4 ≡ answer
-        unfolding refusal1 refusal2 refusal3 firstHolding layout
-        pairs-broken h = simp (le-ltb (length s) 20 l, equal v v1, equal w w4, sym (four e) ∙ h)
+      pub header-right : m ≡ 4 → HeaderRight
+      unfolding refusal1 refusal2 refusal3
+      header-right h = record { one = le-ltb (length s) 20 l; two = simp (equal v v1); three = simp (equal w h) }
 
-        pub header-right : not b ≡ false → layout (firstHolding 5 (partTests s)) (partsOf s) ≡ answer
-        unfolding refusal1 refusal2 refusal3 firstHolding
-        header-right h = simp (le-ltb (length s) 20 l, equal v v1, equal w w4, sym (four e) ∙ h)
+  module _ (a : HeaderRight) {bounds : List ℕ} {b : Bool} (e : Read Two s 4 20 4 (replicate 5 0) bounds b) where
+    pub pairs-broken : not b ≡ true → LayoutRefused 4 ≡ answer
+    unfolding firstHolding layout
+    pairs-broken h = simp (a .one, a .two, a .three, sym (four e) ∙ h)
+
+    pub pairs-right : not b ≡ false → layout (firstHolding 5 (partTests s)) (partsOf s) ≡ answer
+    unfolding firstHolding
+    pairs-right h = simp (a .one, a .two, a .three, sym (four e) ∙ h)
 
   -- what is left for the reader of values
   pub laid-out : {r : Layout} {p : Parts} → r ≡ answer → r ≡ Laid p → LaidOut s p

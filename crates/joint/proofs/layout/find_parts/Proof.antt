@@ -26,10 +26,8 @@ find-parts-spec =
     (λ c κs. search needs)
     (λ c κs. search needs)
     (λ c κs. search needs)
-    (λ c. kinds-missing (looked (c .before .before .before .before .before)) (c .if1 .taken))
-    (λ c κs.
-    let b = c .before .before in
-    positions-inside (looked (b .before .before .before .before .before)) (b .if1 .left))
+    (λ c. search (kinds-missing, looked))
+    (λ c κs. search (positions-inside, looked))
     (λ c κs. search needs)
     (λ c.
     let s = c .before .before .before in

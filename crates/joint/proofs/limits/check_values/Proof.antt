@@ -47,11 +47,4 @@ check-values-spec =
     (search needs)
     (search needs)
     (c .if3 .taken))
-    (λ c.
-    let b = c .before .before .before .before .before in
-    let d = b .before .before in
-    let f = d .before in
-    values-right _ (f .if1 .left) (fields (f .before)) (d .outline-empty .ensures) (b .before .outline-empty2 .ensures) (b .if2 .left)
-    (search needs)
-    (search needs)
-    (c .if3 .left)))
+    (λ c. search (values-right, fields)))
