@@ -1,5 +1,4 @@
 -- What it makes is the report, and the report meets the claim.
-use borrow.Author.Needs.{needs}
 use denote.Ref.{now}
 use mathlib.Core.Path.{_∙_, ap, sym, subst⁻¹}
 use Rattle.joint.specs.Claim.{Accepted}

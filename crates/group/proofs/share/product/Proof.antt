@@ -6,7 +6,6 @@ use native.Mathlib.Omega.{arith}
 use lib.Dec.{lit≤}
 use Rattle.wide.proofs.Bits.{product-bits}
 use Rattle.group.proofs.Sizes.{number2, distance2, distance3, fifth}
-use borrow.Author.Needs.{needs}
 use Rattle.group.proofs.share.product.Statement.{statement}
 use Rattle.group.proofs.share.product.Tie as tie
 

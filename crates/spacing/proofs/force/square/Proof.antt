@@ -4,7 +4,6 @@ use native.Mathlib.Nat.{mul-le-mul}
 use lib.IntN.{natAbs}
 use mir.Facts.{toZ-ofZ}
 use native.Mathlib.Omega.{arith}
-use borrow.Author.Needs.{needs}
 use Rattle.spacing.proofs.force.square.Statement.{statement}
 use Rattle.spacing.proofs.force.square.Tie as tie
 
