@@ -81,14 +81,14 @@ fn capacity_of(members: Members, dowel: Dowel, total: u64, along1: u64, along2: 
     requires { ⌜ (along1 ≤ 1000000) × (along2 ≤ 1000000) ⌝ }
     ensures { λ r. ⌜ r ≡ capacityOf (planeIn members dowel total along1 along2) ⌝ }
 {
-    let first = members.member1;
-    let second = members.member2;
-    let member1 = plane_member(dowel.diameter, first, along1, total);
-    let member2 = plane_member(dowel.diameter, second, along2, total);
+    let member1 = members.member1;
+    let member2 = members.member2;
+    let timber1 = plane_member(dowel.diameter, member1, along1, total);
+    let timber2 = plane_member(dowel.diameter, member2, along2, total);
     let steel = listed(tables::steel_strength(dowel.steel));
     capacity::capacity_thousandths(plane::Plane {
-        member1,
-        member2,
+        member1: timber1,
+        member2: timber2,
         diameter: dowel.diameter as u64,
         steel,
         planes: members.planes as u64,
