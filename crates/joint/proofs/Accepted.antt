@@ -6,7 +6,7 @@ use borrow.Author.Tests.{leb-true, not-false}
 use lib.Dec.{leb}
 use Rattle.joint.specs.declared.Member.{Member}
 use Rattle.joint.specs.declared.Values.{Values}
-use Rattle.joint.specs.Refusal.{between, knownClass, memberWithin, membersWithin, dowelWithin, positionsWithin}
+use Rattle.joint.specs.Refusal.{between, memberWithin, membersWithin, dowelWithin, positionsWithin}
 use Rattle.joint.specs.Refusal.{loadsWithin, fieldsWithin}
 use Rattle.joint.specs.Returned.{MemberHolds, FieldsHold}
 use Rattle.joint.proofs.Tests.{first-of, second-of}
@@ -20,7 +20,7 @@ between-high low high n h = leb-true n high (second-of (leb low n) (leb n high) 
 
 -- ---- the fields
 member-holds : (m : Member) → memberWithin m ≡ true → MemberHolds m
-unfolding memberWithin knownClass
+unfolding memberWithin
 member-holds m h = search (first-of, second-of, leb-true)
 
 pub fields-hold : (v : Values) → not (fieldsWithin v) ≡ false → FieldsHold v

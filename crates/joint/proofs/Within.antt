@@ -7,7 +7,8 @@ use native.Mathlib.Nat.{mul-le-mul, mul-pos}
 use borrow.Author.Tests.{eqb-true}
 use lib.Dec.{eqb}
 use lib.IntN.{natAbs}
-use Rattle.strength.specs.Tables.{densityOf, steelOf, kmodOf}
+use Rattle.codes.specs.Tables.{woodOf, woodIn, steelOf, kmodOf, listed}
+use Rattle.codes.proofs.Woods.{density-within, k90-low, k90-high}
 use Rattle.strength.specs.Shear.{MemberWithin, PlaneWithin}
 use Rattle.spacing.specs.Spacing.{squaredForce, Components}
 use Rattle.group.specs.Share.{allTo}
@@ -15,7 +16,7 @@ use Rattle.group.proofs.Shares.{all-at, both-true}
 use Rattle.joint.specs.declared.Member.{Member}
 use Rattle.joint.specs.declared.Values.{Values}
 use Rattle.joint.specs.Refusal.{between}
-use Rattle.joint.specs.DesignOf.{listed, forceAlong, planeMember, planeIn, planeOf, kmodIn}
+use Rattle.joint.specs.DesignOf.{forceAlong, planeMember, planeIn, planeOf, kmodIn}
 use Rattle.joint.specs.Returned.{MemberHolds, FieldsHold, CheckWithin, twicePlanes}
 use Rattle.joint.proofs.Accepted.{between-low, between-high}
 
@@ -23,13 +24,6 @@ use Rattle.joint.proofs.Accepted.{between-low, between-high}
 coded : (test : ℕ → Bool) (k : ℕ) → allTo (λ c. test (suc c)) k ≡ true → (c : ℕ) → 1 ≤ c → c ≤ k → test c ≡ true
 coded test k h zero l m = absurd (omega arith)
 coded test k h (suc c) l m = all-at (λ c. test (suc c)) k h c m
-
-densityTest : ℕ → Bool
-densityTest c = between 290 1100 (listed (densityOf c))
-
-density-tested : (c : ℕ) → 1 ≤ c → c ≤ 8 → densityTest c ≡ true
-unfolding allTo densityTest densityOf
-density-tested = coded densityTest 8 refl
 
 steelTest : ℕ → Bool
 steelTest c = between 300 800 (listed (steelOf c))
@@ -81,14 +75,14 @@ module _ (v : Values) (f : FieldsHold v) (g : Components (v .dowel .diameter) (v
 
   -- ---- the plane
   member-within : (m : Member) → MemberHolds m → MemberWithin (planeMember (v .dowel .diameter) m (forceAlong (v .loads) m) total)
-  unfolding densityTest
   member-within m h =
-      let t = density-tested (m .class) (h .class-low) (h .class-high) in
+      let density = density-within (m .class) (h .class) in
+      let kind = woodIn (woodOf (m .class)) .kind in
       record {
-        density-low = between-low 290 1100 (listed (densityOf (m .class))) t;
-        density-high = between-high 290 1100 (listed (densityOf (m .class))) t;
-        k90-low = omega (arith, f .diameter-low);
-        k90-high = omega (arith, f .diameter-high);
+        density-low = density .0;
+        density-high = density .1;
+        k90-low = k90-low kind (v .dowel .diameter) (f .diameter-low);
+        k90-high = k90-high kind (v .dowel .diameter) (f .diameter-high);
         angle = along-part m;
         force = total-low;
         force-high = omega (arith, total-small);

@@ -5,9 +5,7 @@ use mathlib.Core.List.{[], _∷_}
 use lib.Dec.{eqb}
 use lib.IntN.{natAbs}
 use Rattle.strength.specs.Fraction.{Fraction, _over_, whole}
-use Rattle.strength.specs.Tables.{densityOf, steelOf, kmodOf, k90Of}
-use Rattle.strength.specs.declared.tables.Listed.{Listed}
-use Rattle.strength.specs.declared.tables.Listed.the-variants.{Value, Unlisted}
+use Rattle.codes.specs.Tables.{woodOf, woodIn, k90Of, steelOf, kmodOf, listed}
 use Rattle.strength.specs.declared.plane.Timber.{Timber}
 use Rattle.strength.specs.declared.plane.Plane.{Plane}
 use Rattle.spacing.specs.Spacing.{along, across, squaredForce}
@@ -19,21 +17,16 @@ use Rattle.joint.specs.declared.Loads.{Loads}
 use Rattle.joint.specs.declared.Values.{Values}
 use Rattle.joint.specs.Design.{Carrier, Design}
 
--- what a table has at a code; every code of an accepted record is listed
-abbrev pub listed : Listed → ℕ
-listed (Value n) = n
-listed Unlisted = 0
-
 -- c, 'the size (never negative) of the whole force's component along the grain'
 abbrev pub forceAlong : Loads → Member → ℕ
 forceAlong l m = natAbs (along (m .grain) (l .fx) (l .fy))
 
 -- ---- Strength of a shear plane
--- a member in a shear plane: cos²α is the squared component along over fx² + fy²
+-- a member in a shear plane: the density of its class, k90 by the kind of its wood; cos²α is the squared component along over fx² + fy²
 abbrev pub planeMember : ℕ → Member → ℕ → ℕ → Timber
 planeMember d m c total = record {
-  density = listed (densityOf (m .class));
-  k90 = k90Of d;
+  density = woodIn (woodOf (m .class)) .density;
+  k90 = k90Of (woodIn (woodOf (m .class)) .kind) d;
   along = c * c;
   total = total;
   thickness = m .thickness;

@@ -105,7 +105,7 @@ pub record Starred : Type 0 where
   pub bytes : List ℕ
   pub prints : Prints
 
--- 01's stars, in its order
+-- 01's stars, in its order, and one for 02's A1
 abbrev pub starred : List Starred
 starred =
     -- B
@@ -130,6 +130,13 @@ starred =
     -- force (3,000, 4,000), d 12, grain x, across 0: along 504 passes the pair rule, 503 doesn't
     ∷ record { bytes = recordOf pairHeader membersB dowelB (pairPositions 248 1) pairLoads; prints = noRefusal }
     ∷ record { bytes = recordOf pairHeader membersB dowelB (pairPositions 247 1) pairLoads; prints = refused 10 1 1 2 }
+    -- B with only dowel 1, D30 in both members, force (0, 3,000): across the grain, where k90 counts; with softwood's C is 7,401 or 7,402
+    ∷ record {
+      bytes =
+          recordOf loneHeader (set (set membersB 2 9) 22 9) dowelB lonePositions
+          (set (set (set (set loadsB 3 0) 4 0) 7 184) 8 11);
+      prints = fitsWith 5533 5562 8810 8811 9999 10000;
+    }
     ∷ []
 
 -- every report for which the claim holds on a starred joint's bytes says what 01 prints of it

@@ -15,14 +15,12 @@ use group::member::Both;
 use spacing::force;
 use strength::capacity;
 use strength::plane;
-use strength::tables;
-use strength::tables::Listed;
 ghost use mathlib.Core.Path.{_≡_};
 ghost use Prim.Native.Nat.{_≤_};
 ghost use Rattle.strength.specs.Shear.{PlaneWithin};
 ghost use Rattle.strength.specs.Working.{capacityOf};
 ghost use Rattle.spacing.specs.Spacing.{Given};
-ghost use Rattle.joint.specs.DesignOf.{listed, planeMember, planeIn};
+ghost use Rattle.joint.specs.DesignOf.{planeMember, planeIn};
 ghost use Rattle.joint.specs.Use.{verdictOf};
 ghost use Rattle.joint.specs.Returned.{
   DemandWithin,
@@ -37,15 +35,6 @@ ghost use Rattle.joint.specs.Returned.{
 
 // A use of the whole capacity, in ten-thousandths.
 const WHOLE: u64 = 10000;
-
-fn listed(entry: Listed) -> u64
-    ensures { λ r. ⌜ r ≡ listed entry ⌝ }
-{
-    match entry {
-        Listed::Value(n) => n,
-        Listed::Unlisted => 0,
-    }
-}
 
 // What the use takes of both members.
 fn taken_of(members: Members, dowel: Dowel, loads: Loads, positions: Positions) -> Both
@@ -66,9 +55,11 @@ fn plane_member(diameter: u8, m: Member, along: u64, total: u64) -> plane::Timbe
     requires { ⌜ along ≤ 1000000 ⌝ }
     ensures { λ r. ⌜ r ≡ planeMember diameter m along total ⌝ }
 {
+    let wood = codes::wood_of(m.class);
+    let kind = wood.kind;
     plane::Timber {
-        density: listed(tables::density(m.class)),
-        k90: tables::k90_softwood(diameter),
+        density: wood.density,
+        k90: codes::k90(kind, diameter),
         along: along * along,
         total,
         thickness: m.thickness as u64,
@@ -85,7 +76,7 @@ fn capacity_of(members: Members, dowel: Dowel, total: u64, along1: u64, along2: 
     let member2 = members.member2;
     let timber1 = plane_member(dowel.diameter, member1, along1, total);
     let timber2 = plane_member(dowel.diameter, member2, along2, total);
-    let steel = listed(tables::steel_strength(dowel.steel));
+    let steel = codes::value_of(codes::steel_strength(dowel.steel));
     capacity::capacity_thousandths(plane::Plane {
         member1: timber1,
         member2: timber2,
@@ -120,7 +111,7 @@ fn demand_of(members: Members, dowel: Dowel, loads: Loads, n: usize, taken: Both
         member1,
         member2,
         planes2: twice_planes(n, members.planes),
-        kmod: listed(tables::kmod_hundredths(loads.service_class, loads.duration)),
+        kmod: codes::value_of(codes::kmod_hundredths(loads.service_class, loads.duration)),
         capacity,
     }
 }

@@ -6,6 +6,7 @@ use crate::Outline;
 use crate::Positions;
 use crate::Stage;
 use crate::Values;
+use codes::is_class;
 use numbers::is_coordinate;
 use numbers::is_force;
 ghost use mathlib.Core.Path.{_≡_};
@@ -13,10 +14,8 @@ ghost use Prim.Native.Nat.{_≤_};
 ghost use Rattle.joint.specs.Refusal.{between, memberWithin, coordinates, positionsWithin, loadsWithin, outlineEmpty, firstHolding};
 ghost use Rattle.joint.specs.Stage.{stage, valueTests};
 
-// Codes of wood, steel, service class and duration count from 1, the grain from 0.
+// Codes of steel, service class and duration count from 1, the grain from 0.
 const FIRST_CODE: u8 = 1;
-
-const LAST_CLASS: u8 = 8;
 
 const LAST_STEEL: u8 = 3;
 
@@ -52,7 +51,7 @@ fn member_within(m: Member) -> bool
     ensures { λ r. ⌜ r ≡ memberWithin m ⌝ }
 {
     let o = m.outline;
-    is_between(FIRST_CODE, LAST_CLASS, m.class)
+    is_class(m.class)
         & is_between(ALONG_X, ALONG_Y, m.grain)
         & ((LEAST_THICKNESS <= m.thickness) & (m.thickness <= MOST_THICKNESS))
         & (is_coordinate(o.x0) & is_coordinate(o.y0) & is_coordinate(o.x1) & is_coordinate(o.y1))

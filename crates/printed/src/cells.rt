@@ -1,6 +1,7 @@
 // A cell of the tables compared with the capacity of its shear plane: C24 and S235, kmod 0.8 and γM 1.3.
 use crate::tables;
 use crate::tables::Table;
+use codes::Kind;
 use strength::capacity;
 use strength::plane::Plane;
 use strength::plane::Timber;
@@ -68,7 +69,7 @@ fn member(diameter: u8, along: u64, thickness: u64) -> Timber
 {
     Timber {
         density: DENSITY,
-        k90: strength::tables::k90_softwood(diameter),
+        k90: codes::k90(Kind::Softwood, diameter),
         along,
         total: TOTAL,
         thickness,

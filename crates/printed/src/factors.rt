@@ -1,8 +1,6 @@
-// 001's factors k1 of the classes of wood and k2 of the steels (below Tables 13-5 to 13-7) beside the tables of `strength`:
+// 001's factors k1 of the classes of wood and k2 of the steels (below Tables 13-5 to 13-7) beside the tables of `codes`:
 // k1 is the root of density/350, k2 that of fu/360.
 use strength::roots;
-use strength::tables;
-use strength::tables::Listed;
 ghost use Prim.Native.Nat.{_≤_, _<_};
 
 pub enum Factor {
@@ -35,21 +33,18 @@ fn printed(f: Factor, code: u8) -> u64
     }
 }
 
-// A table's value, 0 where it has none.
-fn listed(l: Listed) -> u64
+// A table's value, 0 where it is too large to be multiplied.
+fn small(value: u64) -> u64
     ensures { λ r. ⌜ r < 10000 ⌝ }
 {
-    let Listed::Value(v) = l else {
-        return 0;
-    };
-    if v < 10000 { v } else { 0 }
+    if value < 10000 { value } else { 0 }
 }
 
 // 4,000,000 times density/350 or fu/360: the square of twice the factor in thousandths.
 fn square_of_twice(f: Factor, code: u8) -> u64 {
     match f {
-        Factor::Wood => 4000000 * listed(tables::density(code)) / 350,
-        Factor::Steel => 4000000 * listed(tables::steel_strength(code)) / 360,
+        Factor::Wood => 4000000 * small(codes::wood_of(code).density) / 350,
+        Factor::Steel => 4000000 * small(codes::value_of(codes::steel_strength(code))) / 360,
     }
 }
 

@@ -4,6 +4,7 @@ mod cells;
 mod factors;
 mod tables;
 
+use codes::Kind;
 use factors::Factor;
 use libc::STDOUT_FILENO;
 use strength::capacity;
@@ -99,7 +100,7 @@ fn example(moment: u64, capacity: u64) -> Tally
 {
     let m = Timber {
         density: 425,
-        k90: strength::tables::k90_softwood(16),
+        k90: codes::k90(Kind::Softwood, 16),
         along: 1,
         total: 1,
         thickness: 800,

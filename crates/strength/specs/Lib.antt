@@ -1,6 +1,5 @@
 -- What the contracts of `strength` speak of.
 pub mod Fraction
-pub mod Tables
 pub mod Shear
 pub mod Roots
 pub mod Figures

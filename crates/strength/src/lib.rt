@@ -3,5 +3,4 @@ pub mod capacity;
 pub mod moment;
 pub mod plane;
 pub mod roots;
-pub mod tables;
 mod terms;

@@ -13,14 +13,14 @@ fn joint_b() -> u64 {
     strength::capacity::capacity_thousandths(Plane {
         member1: Timber {
             density: 350,
-            k90: strength::tables::k90_softwood(12),
+            k90: 1530,
             along: 1,
             total: 1,
             thickness: 600,
         },
         member2: Timber {
             density: 350,
-            k90: strength::tables::k90_softwood(12),
+            k90: 1530,
             along: 1,
             total: 1,
             thickness: 800,

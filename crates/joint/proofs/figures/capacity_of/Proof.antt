@@ -4,12 +4,13 @@ use mathlib.Core.Path.{_≡_, _∙_, ap, subst⁻¹}
 use Rattle.strength.specs.Shear.{PlaneWithin}
 use Rattle.strength.specs.Working.{capacityOf}
 use Rattle.strength.specs.declared.plane.Plane.{Plane}
-use Rattle.joint.specs.DesignOf.{listed, planeIn}
+use Rattle.codes.specs.Tables.{listed}
+use Rattle.joint.specs.DesignOf.{planeIn}
 use Rattle.joint.proofs.figures.capacity_of.Statement.{statement}
 use Rattle.joint.proofs.figures.capacity_of.Tie as tie
 
 plane-is :
-    (c : tie.After-listed) →
+    (c : tie.After-value-of) →
     let member1 = c .before .before .before in
     let v = member1 .before .before .before .args in
     _≡_ {A = Plane}
@@ -17,7 +18,7 @@ plane-is :
       member1 = member1 .plane-member .result;
       member2 = c .before .before .plane-member2 .result;
       diameter = v .dowel .diameter;
-      steel = c .listed .result;
+      steel = c .value-of .result;
       planes = v .members .planes;
     })
     (planeIn (v .members) (v .dowel) (v .total) (v .along1) (v .along2))
@@ -29,18 +30,18 @@ plane-is c =
       member1 = member1 .plane-member .ensures i;
       member2 = c .before .before .plane-member2 .ensures i;
       diameter = v .dowel .diameter;
-      steel = (c .listed .ensures ∙ ap listed (c .before .steel-strength .ensures)) i;
+      steel = (c .value-of .ensures ∙ ap listed (c .before .steel-strength .ensures)) i;
       planes = v .members .planes;
     }
 
 capacity-thousandths-requires : tie.Need-capacity-thousandths-requires
 capacity-thousandths-requires c κs =
-    let l : tie.After-listed = search in
+    let l : tie.After-value-of = search in
     let k : tie.Start = search in
     subst⁻¹ PlaneWithin (plane-is l) (k .pre .0)
 
 returns : tie.Need-returns
-returns c = let l : tie.After-listed = search in c .capacity-thousandths .ensures .is ∙ ap capacityOf (plane-is l)
+returns c = let l : tie.After-value-of = search in c .capacity-thousandths .ensures .is ∙ ap capacityOf (plane-is l)
 
 pub capacity-of-spec : {M : Type 1} → statement M
 capacity-of-spec =

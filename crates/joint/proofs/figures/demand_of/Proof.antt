@@ -5,7 +5,8 @@ use Rattle.spacing.specs.Spacing.{squaredForce}
 use Rattle.spacing.proofs.Integers.{small-read}
 use Rattle.strength.specs.Shear.{PlaneWithin}
 use Rattle.strength.specs.Working.{capacityOf}
-use Rattle.joint.specs.DesignOf.{listed, planeIn, planeOf}
+use Rattle.codes.specs.Tables.{listed}
+use Rattle.joint.specs.DesignOf.{planeIn, planeOf}
 use Rattle.joint.proofs.figures.demand_of.Statement.{statement}
 use Rattle.joint.proofs.figures.demand_of.Tie as tie
 
@@ -46,7 +47,7 @@ returns c =
       member1 = k .args .taken .member1;
       member2 = k .args .taken .member2;
       planes2 = planes .twice-planes .ensures i;
-      kmod = (c .listed .ensures ∙ ap listed (c .before .kmod-hundredths .ensures)) i;
+      kmod = (c .value-of .ensures ∙ ap listed (c .before .kmod-hundredths .ensures)) i;
       capacity = (capacity .capacity-of .ensures ∙ ap capacityOf (plane-is total)) i;
     }
 

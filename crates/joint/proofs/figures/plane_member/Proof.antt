@@ -9,11 +9,11 @@ mul-t8 c = let k : tie.Start = search in omega (arith, mul-le-mul (k .pre) (k .p
 
 returns : tie.Need-returns
 returns c =
-    let k90 : tie.After-k90-softwood = search in
-    let l : tie.After-listed = search in
-    simp (k90 .k90-softwood .ensures, l .listed .ensures, l .before .density .ensures)
+    let k : tie.After-k90 = search in
+    let w : tie.After-wood-of = search in
+    simp (k .k90 .ensures, w .wood-of .ensures)
 
 pub plane-member-spec : {M : Type 1} → statement M
 plane-member-spec =
     tie.close
-    (tie.spec (λ c κs. tt) (λ c κs. tt) (λ c κs. tt) mul-t8 (λ c. search needs) returns)
+    (tie.spec (λ c κs. tt) (λ c κs. tt) mul-t8 (λ c. search needs) returns)

@@ -2,12 +2,12 @@ use borrow.Author.Needs.{needs}
 use mathlib.Core.Path.{_≡_}
 use mir.Syntax.{w32}
 use mir.Val.{ofZ, toZ}
-use Rattle.joint.specs.Refusal.{knownClass, outlineWithin, memberWithin}
+use Rattle.joint.specs.Refusal.{outlineWithin, memberWithin}
 use Rattle.joint.proofs.limits.member_within.Statement.{statement}
 use Rattle.joint.proofs.limits.member_within.Tie as tie
 
 pub member-within-spec : {M : Type 1} → statement M
-unfolding memberWithin knownClass outlineWithin
+unfolding memberWithin outlineWithin
 member-within-spec =
     tie.close
     (tie.spec
@@ -26,8 +26,8 @@ member-within-spec =
     let x1 : toZ w32 (ofZ w32 (o .x1)) ≡ o .x1 = search needs in
     let y1 : toZ w32 (ofZ w32 (o .y1)) ≡ o .y1 = search needs in
     simp (
-      d .before .is-between .ensures,
-      d .is-between2 .ensures,
+      d .before .is-class .ensures,
+      d .is-between .ensures,
       b .is-coordinate .ensures,
       c .before .before .before .before .is-coordinate2 .ensures,
       c .before .before .is-coordinate3 .ensures,

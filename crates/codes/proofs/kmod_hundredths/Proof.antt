@@ -3,11 +3,11 @@ use mathlib.Core.Path.{_≡_, refl, ap, sym, _∙_}
 use Prim.Native.Nat.{ℕ, zero, suc, _<_, _≤_}
 use native.Mathlib.Omega.{arith}
 use borrow.Author.Tests.{ne-eqb}
-use Rattle.strength.specs.declared.tables.Listed.{Listed}
-use Rattle.strength.specs.declared.tables.Listed.the-variants.{Unlisted}
-use Rattle.strength.specs.Tables.{kmodOf, durations}
-use Rattle.strength.proofs.tables.kmod_hundredths.Statement.{statement}
-use Rattle.strength.proofs.tables.kmod_hundredths.Tie as tie
+use Rattle.codes.specs.declared.Listed.{Listed}
+use Rattle.codes.specs.declared.Listed.the-variants.{Unlisted}
+use Rattle.codes.specs.Tables.{kmodOf, durations}
+use Rattle.codes.proofs.kmod_hundredths.Statement.{statement}
+use Rattle.codes.proofs.kmod_hundredths.Tie as tie
 
 -- a service class whose row is f
 at-row : (f : ℕ → Listed) (s d : ℕ) → kmodOf s ≡ f → f d ≡ kmodOf s d

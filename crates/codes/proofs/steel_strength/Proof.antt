@@ -1,9 +1,9 @@
 -- Each arm is the table's line; the codes left over are none of the table's.
 use mathlib.Core.Path.{ap, sym}
 use borrow.Author.Tests.{ne-eqb}
-use Rattle.strength.specs.Tables.{steelOf}
-use Rattle.strength.proofs.tables.steel_strength.Statement.{statement}
-use Rattle.strength.proofs.tables.steel_strength.Tie as tie
+use Rattle.codes.specs.Tables.{steelOf}
+use Rattle.codes.proofs.steel_strength.Statement.{statement}
+use Rattle.codes.proofs.steel_strength.Tie as tie
 
 pub steel-strength-spec : {M : Type 1} → statement M
 unfolding steelOf

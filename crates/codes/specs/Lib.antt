@@ -1,0 +1,2 @@
+-- What the contracts of `codes` speak of.
+pub mod Tables
