@@ -11,12 +11,14 @@ use Rattle.codes.proofs.k90.Tie as tie
 returns : tie.Need-returns
 returns c =
     let s : tie.Start = search in
-    omega (arith, ap (λ (k : Kind). k90Of k (s .args .diameter)) (c .enum-told .given .1))
+    let e : tie.After-enum-told = search in
+    omega (arith, ap (λ (k : Kind). k90Of k (s .args .diameter)) (e .enum-told .given .1))
 
 returns-2 : tie.Need-returns-2
 returns-2 c =
     let s : tie.Start = search in
-    omega (arith, ap (λ (k : Kind). k90Of k (s .args .diameter)) (c .enum-told2 .given .1))
+    let e : tie.After-enum-told2 = search in
+    omega (arith, ap (λ (k : Kind). k90Of k (s .args .diameter)) (e .enum-told2 .given .1))
 
 pub k90-spec : {M : Type 1} → statement M
 k90-spec =

@@ -1,9 +1,15 @@
 -- Each arm is the table's line; the codes left over are none of the table's.
-use mathlib.Core.Path.{ap, sym, _∙_}
+use Prim.Native.Nat.{ℕ}
+use mathlib.Core.Path.{_≡_, refl, ap, sym, _∙_}
 use borrow.Author.Tests.{ne-eqb}
-use Rattle.codes.specs.Tables.{printedClasses, woodOf}
+use Rattle.codes.specs.declared.Class.{Class}
+use Rattle.codes.specs.Tables.{softwood, hardwood, printedClasses, woodOf}
 use Rattle.codes.proofs.printed.Statement.{statement}
 use Rattle.codes.proofs.printed.Tie as tie
+
+-- the answer is the entry of the table's line k
+at-line : (k : ℕ) (entry : Class) → entry ≡ woodOf k → {code : ℕ} {r : Class} → code ≡ k → r ≡ entry → r ≡ woodOf code
+at-line k entry line key answer = answer ∙ line ∙ ap woodOf (sym key)
 
 pub printed-spec : {M : Type 1} → statement M
 unfolding woodOf printedClasses
@@ -21,17 +27,17 @@ printed-spec =
     (λ c κs. tt)
     (λ c κs. tt)
     (λ c κs. tt)
-    (λ c. c .softwood .ensures ∙ ap woodOf (sym (c .before .match .keys1)))
-    (λ c. c .softwood2 .ensures ∙ ap woodOf (sym (c .before .match .keys2)))
-    (λ c. c .softwood3 .ensures ∙ ap woodOf (sym (c .before .match .keys3)))
-    (λ c. c .softwood4 .ensures ∙ ap woodOf (sym (c .before .match .keys4)))
-    (λ c. c .softwood5 .ensures ∙ ap woodOf (sym (c .before .match .keys5)))
-    (λ c. c .softwood6 .ensures ∙ ap woodOf (sym (c .before .match .keys6)))
-    (λ c. c .softwood7 .ensures ∙ ap woodOf (sym (c .before .match .keys7)))
-    (λ c. c .softwood8 .ensures ∙ ap woodOf (sym (c .before .match .keys8)))
-    (λ c. c .hardwood .ensures ∙ ap woodOf (sym (c .before .match .keys9)))
-    (λ c. c .hardwood2 .ensures ∙ ap woodOf (sym (c .before .match .keys10)))
-    (λ c. c .hardwood3 .ensures ∙ ap woodOf (sym (c .before .match .keys11)))
+    (λ c. at-line 1 (softwood 350) refl (c .before .match .keys1) (c .softwood .ensures))
+    (λ c. at-line 2 (softwood 380) refl (c .before .match .keys2) (c .softwood2 .ensures))
+    (λ c. at-line 3 (softwood 385) refl (c .before .match .keys3) (c .softwood3 .ensures))
+    (λ c. at-line 4 (softwood 365) refl (c .before .match .keys4) (c .softwood4 .ensures))
+    (λ c. at-line 5 (softwood 425) refl (c .before .match .keys5) (c .softwood5 .ensures))
+    (λ c. at-line 6 (softwood 390) refl (c .before .match .keys6) (c .softwood6 .ensures))
+    (λ c. at-line 7 (softwood 440) refl (c .before .match .keys7) (c .softwood7 .ensures))
+    (λ c. at-line 8 (softwood 400) refl (c .before .match .keys8) (c .softwood8 .ensures))
+    (λ c. at-line 9 (hardwood 530) refl (c .before .match .keys9) (c .hardwood .ensures))
+    (λ c. at-line 10 (hardwood 550) refl (c .before .match .keys10) (c .hardwood2 .ensures))
+    (λ c. at-line 11 (hardwood 900) refl (c .before .match .keys11) (c .hardwood3 .ensures))
     (λ c. ap woodOf (sym (c .match .keys12)))
     (λ c. simp (
       ne-eqb _ _ (c .match .rest .0 .0 .0 .0 .0 .0 .0 .0 .0 .0 .0 .1),
