@@ -1,5 +1,5 @@
-"""Tests of the engineer itself: against the figures that document 01 prints, and against
-its sentences taken literally with fractions.
+"""Tests of the engineer itself: against the figures that document 01 and request A1 print, and
+against their sentences taken literally with fractions.
 
   selftest.py [--count N] [--seed S]     with N records made by chance
 """
