@@ -92,8 +92,8 @@ def oak_post():
 
 
 def samples():
-    """'Joints to try' with the line or bounds printed there, and a joint of softwood and hardwood with bounds worked
-    by hand: (name, record, line or bounds).
+    """'Joints to try' with the line or bounds printed there, and a joint of softwood and hardwood with bounds from the
+    printed formulas in decimals: (name, record, line or bounds).
     Bounds: (verdict, U range or None, C range or None, E range or None)."""
     b = write(joint_b())
     pair = joint_b(force=(3000, 4000), dowels=[(0, 0), (504, 0)])

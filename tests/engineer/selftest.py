@@ -127,7 +127,7 @@ class Literal:
 
 
 def printed():
-    """The figures printed in document 01, and those of a joint worked by hand."""
+    """The figures printed in document 01, and those of a joint of both kinds of wood."""
     for name, data, want in records.samples():
         ref = engineer.Reference(data)
         if isinstance(want, str):

@@ -653,11 +653,11 @@ def mixed(self):
     return len({c in self.hardwood for c in self.cls}) == 2
 
 
-def class_tested_in(m, low, high):
-    """Member m's class is tested for limits of its own."""
+def accepts_in(m, classes):
+    """Member m's class is one of these."""
     def test_fields(self):
         kept = self.cls[m]
-        self.cls[m] = 1 if low <= kept <= high else 0
+        self.cls[m] = 1 if kept in classes else 0
         Model.test_fields(self)
         self.cls[m] = kept
     return test_fields
@@ -676,10 +676,10 @@ changed(WOOD, "k90 not below 1", k90=lambda self, m: max(1000, Model.k90(self, m
 changed(WOOD, "k90 = 1 for hardwood", k90=lambda self, m: 1000 if self.cls[m] in self.hardwood else Model.k90(self, m))
 changed(WOOD, "class 9 refused still", limits=dict(Model.limits, **{"class": (1, 8)}))
 for _m in (0, 1):
-    for _low, _high, _says in ((1, 8, "9 refused still"), (1, 10, "11 refused"), (1, 12, "12 accepted"),
-                               (1, 255, "255 accepted"), (0, 11, "0 accepted")):
-        changed(WOOD, "class %s in member %d" % (_says, _m + 1), test_fields=class_tested_in(_m, _low, _high),
-                density={_c: Model.density.get(_c, 350) for _c in range(256)})
+    for _c in (0, 9, 10, 11, 12, 255):
+        _says = "refused still" if _c in Model.density else "accepted"
+        changed(WOOD, "class %d %s in member %d" % (_c, _says, _m + 1),
+                test_fields=accepts_in(_m, set(Model.density) ^ {_c}), density={_c: 350} | Model.density)
 for _c, _other in ((9, 10), (10, 9), (10, 11), (11, 10), (9, 8), (8, 9)):
     changed(WOOD, "density of class %d for %d" % (_other, _c), density=Model.density | {_c: Model.density[_other]})
 
