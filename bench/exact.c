@@ -6,7 +6,15 @@
 
 #include "bench.h"
 
-static const unsigned DENSITY[8] = {350, 380, 385, 365, 425, 390, 440, 400};
+#define SOFTWOOD 1350 /* k90 without its 15 d, in thousandths */
+#define HARDWOOD 900
+static const struct {
+    unsigned k90, density;
+} WOOD[] = {
+    {SOFTWOOD, 350}, {SOFTWOOD, 380}, {SOFTWOOD, 385}, {SOFTWOOD, 365}, {SOFTWOOD, 425}, {SOFTWOOD, 390},
+    {SOFTWOOD, 440}, {SOFTWOOD, 400}, {HARDWOOD, 530}, {HARDWOOD, 550}, {HARDWOOD, 900},
+};
+enum { CLASSES = sizeof WOOD / sizeof WOOD[0] };
 static const unsigned STEEL[3] = {360, 430, 510};
 static const unsigned KMOD[3][5] = {{60, 70, 80, 90, 110}, {60, 70, 80, 90, 110}, {50, 55, 65, 70, 90}};
 
@@ -83,7 +91,8 @@ static unsigned read_joint(const uint8_t *b, size_t length, struct joint *j)
         m->class = p[0];
         m->grain = p[1];
         m->thickness = u16_at(p + 2);
-        good = good && 1 <= m->class && m->class <= 8 && m->grain <= 1 && 200 <= m->thickness && m->thickness <= 4000;
+        good = good && 1 <= m->class && m->class <= CLASSES && m->grain <= 1 && 200 <= m->thickness
+            && m->thickness <= 4000;
         for (int a = 0; a < 2; a++) {
             m->low[a] = i32_at(p + 4 + 4 * a);
             m->high[a] = i32_at(p + 12 + 4 * a);
@@ -171,9 +180,9 @@ static void bearing(const struct joint *j, const struct member *m, mpz_t num, mp
 {
     uint64_t whole = total(j), cos2 = square(j->force[m->grain]);
     mpz_set_ui(num, whole);
-    mpz_mul_ui(num, num, DENSITY[m->class - 1]);
+    mpz_mul_ui(num, num, WOOD[m->class - 1].density);
     mpz_set_ui(den, whole - cos2);
-    mpz_mul_ui(den, den, 1350 + 15 * j->d);
+    mpz_mul_ui(den, den, WOOD[m->class - 1].k90 + 15 * j->d);
     mpz_t c;
     mpz_init_set_ui(c, cos2);
     mpz_addmul_ui(den, c, 1000);

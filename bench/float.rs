@@ -1,7 +1,20 @@
 // The same job in plain floating point: read a record, refuse it, or give verdict, use, capacity and row share.
 // Nothing here is proved, and comparisons are only as good as f64: it is a yardstick for the benchmark.
 
-const DENSITY: [f64; 8] = [350., 380., 385., 365., 425., 390., 440., 400.];
+// By class from 1: k90 without its 0.015 d (1.35 softwood, 0.90 hardwood), and the density.
+const WOOD: [(f64, f64); 11] = [
+    (1.35, 350.),
+    (1.35, 380.),
+    (1.35, 385.),
+    (1.35, 365.),
+    (1.35, 425.),
+    (1.35, 390.),
+    (1.35, 440.),
+    (1.35, 400.),
+    (0.90, 530.),
+    (0.90, 550.),
+    (0.90, 900.),
+];
 const STEEL: [f64; 3] = [360., 430., 510.];
 const KMOD: [[f64; 5]; 3] = [
     [0.60, 0.70, 0.80, 0.90, 1.10],
@@ -130,7 +143,7 @@ fn read(b: &[u8]) -> Result<Joint, Refusal> {
     let coordinate = |z: f64| z.abs() <= 100_000.;
     let fields = (1..=2).contains(&j.planes)
         && j.members.iter().all(|m| {
-            (1..=8).contains(&m.class)
+            (1..=WOOD.len()).contains(&(m.class as usize))
                 && m.grain <= 1
                 && (200. ..=4000.).contains(&m.thickness)
                 && [m.x0, m.y0, m.x1, m.y1].into_iter().all(coordinate)
@@ -197,8 +210,9 @@ fn cos2(m: &Member, j: &Joint) -> f64 {
 fn capacity(j: &Joint) -> f64 {
     let bearing = |m: &Member| {
         let c2 = cos2(m, j);
-        let k90 = 1.35 + 0.015 * j.d;
-        0.082 * (1. - 0.01 * j.d) * DENSITY[m.class as usize - 1] / (k90 * (1. - c2) + c2)
+        let (base, density) = WOOD[m.class as usize - 1];
+        let k90 = base + 0.015 * j.d;
+        0.082 * (1. - 0.01 * j.d) * density / (k90 * (1. - c2) + c2)
     };
     let [f1, f2] = [bearing(&j.members[0]), bearing(&j.members[1])];
     let [t1, t2] = [j.members[0].thickness / 10., j.members[1].thickness / 10.];

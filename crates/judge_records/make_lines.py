@@ -1,5 +1,5 @@
 #!/usr/bin/env python3
-"""Writes data/, args and stdout of this folder, run there: the joints of document 01 and some more, and the line of each.
+"""Writes data/, args and stdout of this folder: the joints of document 01, of request A1 and some more, and the line of each.
 
 Refusals come from the reference engineer. Figures are worked out here with exact integers, as docs/DECISIONS.md says which figure
 within its bracket is reported, and are held to the engineer's brackets.
@@ -13,8 +13,11 @@ HERE = pathlib.Path(__file__).resolve().parent
 ROOT = HERE.parent.parent
 sys.path.insert(0, str(ROOT / "tests" / "engineer"))
 import engineer  # noqa: E402
+import records  # noqa: E402
 
-DENSITY = {1: 350, 2: 380, 3: 385, 4: 365, 5: 425, 6: 390, 7: 440, 8: 400}
+SOFTWOOD, HARDWOOD = 1350, 900      # k90 without its 15 d, in thousandths
+WOOD = {1: (SOFTWOOD, 350), 2: (SOFTWOOD, 380), 3: (SOFTWOOD, 385), 4: (SOFTWOOD, 365), 5: (SOFTWOOD, 425), 6: (SOFTWOOD, 390),
+        7: (SOFTWOOD, 440), 8: (SOFTWOOD, 400), 9: (HARDWOOD, 530), 10: (HARDWOOD, 550), 11: (HARDWOOD, 900)}
 STEEL = {1: 360, 2: 430, 3: 510}
 KMOD = {1: (60, 70, 80, 90, 110), 2: (60, 70, 80, 90, 110), 3: (50, 55, 65, 70, 90)}
 
@@ -45,9 +48,9 @@ def figures(record):
     force = struct.unpack_from("<ii", parts[4], 3)
     total = force[0] ** 2 + force[1] ** 2
     along = [abs(force[m[1]]) for m in members]
-    k90 = 1350 + 15 * d
-    num = [DENSITY[m[0]] * total for m in members]
-    den = [k90 * (total - a * a) + 1000 * a * a for a in along]
+    woods = [WOOD[m[0]] for m in members]
+    num = [density * total for _, density in woods]
+    den = [(k90 + 15 * d) * (total - a * a) + 1000 * a * a for (k90, _), a in zip(woods, along)]
     cross = [num[0] * den[1], num[1] * den[0]]
     k = 82 * (100 - d) * d
     moment = root((300 * fu) ** 5 * d ** 13, 1, 5)
@@ -91,17 +94,20 @@ def line(record):
 
 
 def main():
-    records = {path.stem: path.read_bytes() for path in sorted((ROOT / "examples").glob("*.rec"))}
-    b = records["joint-b"]
-    records["no-bytes"] = b""
-    records["twenty-bytes"] = b[:20]
-    records["most-bytes"] = b[:18] + struct.pack("<H", 4096 - 99) + b[20:] + bytes(4096 - len(b))    # its last part fills it
-    records["too-long"] = b + bytes(4097 - len(b))
+    joints = {path.stem: path.read_bytes() for path in sorted((ROOT / "examples").glob("*.rec"))}
+    b = joints["joint-b"]
+    joints["no-bytes"] = b""
+    joints["twenty-bytes"] = b[:20]
+    joints["most-bytes"] = b[:18] + struct.pack("<H", 4096 - 99) + b[20:] + bytes(4096 - len(b))    # its last part fills it
+    joints["too-long"] = b + bytes(4097 - len(b))
+    joints.update(records.hardwood_joints())
     (HERE / "data").mkdir(exist_ok=True)
-    for name, record in records.items():
+    for old in (HERE / "data").iterdir():
+        old.unlink()
+    for name, record in joints.items():
         (HERE / "data" / name).write_bytes(record)
-    (HERE / "args").write_text("".join(name + "\n" for name in records))
-    (HERE / "stdout").write_text("".join("%s: %s\n" % (name, line(record)) for name, record in records.items()))
+    (HERE / "args").write_text("".join(name + "\n" for name in joints))
+    (HERE / "stdout").write_text("".join("%s: %s\n" % (name, line(record)) for name, record in joints.items()))
 
 
 main()

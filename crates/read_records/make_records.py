@@ -162,8 +162,10 @@ for p in (0, 3, 255):
     add(f"planes-{p}", joint(p=p), "7 0 0 0")
 add("planes-1", joint(p=1))
 for which in ("m1", "m2"):
-    for cls, answer in ((0, "7 0 0 0"), (1, "accepted"), (8, "accepted"), (9, "7 0 0 0"), (255, "7 0 0 0")):
-        add(f"{which}-class-{cls}", joint(**{which: dict(cls=cls)}), answer)
+    for cls in (1, 8, 9, 10, 11):
+        add(f"{which}-class-{cls}", joint(**{which: dict(cls=cls)}))
+    for cls in (0, 12, 255):
+        add(f"{which}-class-{cls}", joint(**{which: dict(cls=cls)}), "7 0 0 0")
     add(f"{which}-grain-2", joint(**{which: dict(grain=2)}), "7 0 0 0")
     for t, answer in ((0, "7 0 0 0"), (199, "7 0 0 0"), (200, "accepted"), (4000, "accepted"), (4001, "7 0 0 0"), (65535, "7 0 0 0")):
         add(f"{which}-thickness-{t}", joint(**{which: dict(t=t)}), answer)

@@ -1,4 +1,4 @@
-"""The engineer: an exact reference for document 01, written from that document alone.
+"""The engineer: an exact reference for document 01 with request A1 of 02, written from these documents alone.
 
 Whole numbers and fractions only.  Reference(record) settles the refusal or the
 exact quantities once; its check(line) says whether an output line is right.
@@ -7,7 +7,13 @@ from fractions import Fraction
 from math import gcd, isqrt
 import re
 
-DENSITY = (None, 350, 380, 385, 365, 425, 390, 440, 400)      # classes 1 to 8, kg/m3
+SOFTWOOD, HARDWOOD = "softwood", "hardwood"
+WOOD = {                                                      # class: kind, density in kg/m3
+    1: (SOFTWOOD, 350), 2: (SOFTWOOD, 380), 3: (SOFTWOOD, 385), 4: (SOFTWOOD, 365),
+    5: (SOFTWOOD, 425), 6: (SOFTWOOD, 390), 7: (SOFTWOOD, 440), 8: (SOFTWOOD, 400),
+    9: (HARDWOOD, 530), 10: (HARDWOOD, 550), 11: (HARDWOOD, 900),
+}
+K90 = {SOFTWOOD: (1350, 15), HARDWOOD: (900, 15)}             # thousandths, and for each mm of d
 FU = (None, 360, 430, 510)                                    # steels 1 to 3, N/mm2
 KMOD_1_2 = (None, 60, 70, 80, 90, 110)                        # hundredths, durations 1 to 5
 KMOD_3 = (None, 50, 55, 65, 70, 90)
@@ -76,7 +82,7 @@ def read(data):
               and 1 <= j.service <= 3 and 1 <= j.duration <= 5
               and -1000000 <= j.fx <= 1000000 and -1000000 <= j.fy <= 1000000)
     for m in (0, 1):
-        within = (within and 1 <= j.cls[m] <= 8 and 0 <= j.grain[m] <= 1
+        within = (within and j.cls[m] in WOOD and 0 <= j.grain[m] <= 1
                   and 200 <= j.t[m] <= 4000
                   and all(-100000 <= x <= 100000 for x in j.outline[m]))
     if not within or not all(-100000 <= x <= 100000 and -100000 <= y <= 100000
@@ -188,9 +194,10 @@ class Exact:
         for m in (0, 1):
             a, c = components(j, m)
             along.append(abs(a))
-            # 1000 f2 (k90 sin2 + cos2), k90 = (1350 + 15d)/1000
-            k = (1350 + 15 * d) * c * c + 1000 * a * a
-            num, den = 82 * (100 - d) * DENSITY[j.cls[m]] * f2, 100 * k
+            kind, density = WOOD[j.cls[m]]
+            base, by_d = K90[kind]
+            k = (base + by_d * d) * c * c + 1000 * a * a    # 1000 f2 (k90 sin2 + cos2)
+            num, den = 82 * (100 - d) * density * f2, 100 * k
             g = gcd(num, den)
             bearing.append((num // g, den // g))
         (n1, d1), (n2, d2) = bearing

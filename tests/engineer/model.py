@@ -35,12 +35,13 @@ class Model:
     most = 4096
     scale = 1               # capacity and share are found in parts of 1/scale
     limits = {
-        "p": (1, 2), "class": (1, 8), "grain": (0, 1), "thickness": (200, 4000),
+        "p": (1, 2), "class": (1, 11), "grain": (0, 1), "thickness": (200, 4000),
         "coordinate": (-100000, 100000), "diameter": (6, 30), "steel": (1, 3),
         "count": (1, 64), "position": (-100000, 100000), "service": (1, 3),
         "duration": (1, 5), "force": (-1000000, 1000000),
     }
-    density = {1: 350, 2: 380, 3: 385, 4: 365, 5: 425, 6: 390, 7: 440, 8: 400}
+    density = {1: 350, 2: 380, 3: 385, 4: 365, 5: 425, 6: 390, 7: 440, 8: 400, 9: 530, 10: 550, 11: 900}
+    hardwood = {9, 10, 11}
     fu = {1: 360, 2: 430, 3: 510}
     kmod_dry = (60, 70, 80, 90, 110)
     kmod_wet = (50, 55, 65, 70, 90)
@@ -290,15 +291,15 @@ class Model:
 
     # ---- capacity
 
-    def k90(self):
-        """in thousandths"""
-        return 1350 + 15 * self.d
+    def k90(self, m):
+        """of member m, in thousandths"""
+        return (900 if self.cls[m] in self.hardwood else 1350) + 15 * self.d
 
     def bearing(self, m):
         """f as (numerator, denominator)"""
         a2, c2, f2 = self.bearing_squares(m)
         num = 82 * (100 - self.d) * self.density[self.cls[m]] * f2
-        den = 100 * (self.k90() * c2 + 1000 * a2)
+        den = 100 * (self.k90(m) * c2 + 1000 * a2)
         g = gcd(num, den)
         return num // g, den // g
 

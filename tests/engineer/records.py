@@ -78,8 +78,22 @@ def joint_b_member(m, **change):
     return v
 
 
+def square(step):
+    """Four dowels, a step apart in x and in y."""
+    return [(0, 0), (step, 0), (0, step), (step, step)]
+
+
+def oak_post():
+    """Two beams of C24, grain x, on the post of D30 between them, grain y, which they press down."""
+    v = joint_b(dowels=square(600), force=(0, -15000))
+    v["members"][0]["outline"] = [-20000, -360, 1440, 960]
+    v["members"][1].update({"class": 9, "grain": 1, "outline": [-360, -20000, 960, 960]})
+    return v
+
+
 def samples():
-    """'Joints to try': (name, record, line or bounds as printed).
+    """'Joints to try' with the line or bounds printed there, and a joint of softwood and hardwood with bounds from the
+    printed formulas in decimals: (name, record, line or bounds).
     Bounds: (verdict, U range or None, C range or None, E range or None)."""
     b = write(joint_b())
     pair = joint_b(force=(3000, 4000), dowels=[(0, 0), (504, 0)])
@@ -104,6 +118,7 @@ def samples():
         ("no-force", write(joint_b(force=(0, 0))), "refused 9 0 0 0\n"),
         ("nineteen-bytes", b[:19], "refused 1 0 0 0\n"),
         ("pairs-exchanged", exchanged, "refused 4 0 0 0\n"),
+        ("oak-post", write(oak_post()), ("fits", (7664, 7703), (5409, 5410), (7346, 7347))),
     ]
 
 
@@ -159,6 +174,7 @@ def none(m, name):
 RIGHT = ((3, 4), (4, 3), (5, 12), (12, 5), (8, 15), (15, 8), (7, 24), (20, 21), (2, 3), (3, 2),
          (1, 1), (1, 2), (9, 40), (28, 45))
 ORDERS = list(permutations((1, 2, 3, 4)))
+HARDWOODS = (9, 10, 11)
 
 
 def some_force(r):
@@ -195,14 +211,18 @@ def some_thickness(r):
     return r.randint(200, 4000)
 
 
+def some_class(r):
+    return r.choice(HARDWOODS) if r.random() < 0.35 else r.randint(1, 8)
+
+
 def some_values(r, force=None):
     """All but the dowels and outlines."""
     g = r.randint(0, 1)
     return {
         "p": r.randint(1, 2),
         "members": [
-            {"class": r.randint(1, 8), "grain": g, "t": some_thickness(r)},
-            {"class": r.randint(1, 8), "grain": g if r.random() < 0.5 else 1 - g,
+            {"class": some_class(r), "grain": g, "t": some_thickness(r)},
+            {"class": some_class(r), "grain": g if r.random() < 0.5 else 1 - g,
              "t": some_thickness(r)},
         ],
         "d": r.randint(6, 30) if r.random() < 0.8 else r.choice((6, 8, 10, 11, 12, 30)),
@@ -416,7 +436,7 @@ def fault_values(r, v):
     elif way == 6:
         m["outline"][r.randrange(4)] += r.choice((-1000, -1, 1, 1000, 300, -300))
     elif way == 7:
-        m["class"] = r.choice((0, 9, 255))
+        m["class"] = r.choice((0, 12, 255))
     elif way == 8:
         m["t"] = r.choice((0, 199, 4001, 65535))
     elif way == 9:
@@ -556,19 +576,29 @@ BENT_TIES = (
     (10, 8, 0, 1, 1, 1, 4, 2, 625), (10, 1, 0, 8, 1, 4, 1, 1, 625),
     (10, 8, 0, 5, 1, 3, 7, 2, 625), (10, 5, 0, 8, 1, 7, 3, 1, 625),
     (14, 8, 0, 8, 1, 1, 0, 1, 1625), (14, 8, 0, 8, 1, 0, 1, 2, 1625),
+    (15, 2, 0, 11, 0, 3, 4, 2, 24), (15, 11, 0, 2, 0, 3, 4, 1, 24),
+    (10, 8, 0, 10, 1, 0, 1, 2, 25), (20, 10, 0, 7, 1, 1, 0, 1, 25),
+    (15, 10, 0, 10, 1, 5, 12, 2, 300), (15, 11, 0, 10, 1, 12, 5, 1, 200),
+    (30, 8, 0, 11, 0, 0, 1, 2, 15), (24, 10, 0, 8, 1, 8, 9, 1, 345),
 )
-DENSITY = (None, 350, 380, 385, 365, 425, 390, 440, 400)
+
+
+def middle_term(d, c, across):
+    """f2 d/2 for each tenth of t2, the force along the grain or across it, as (numerator, denominator)."""
+    k90 = (900 if c in HARDWOODS else 1350) + 15 * d
+    return 82 * (100 - d) * Model.density[c] * d, 2000 * (k90 if across else 1000)
 
 
 def middle_ties():
-    """p = 2, force along: f2 d t2/2 whole; (d, class, least thickness)."""
+    """p = 2: f2 d t2/2 whole; (d, class, whether the force is across, least thickness)."""
     out = []
-    for d in range(6, 31):
-        for c in range(1, 9):
-            num = 82 * (100 - d) * DENSITY[c] * d
-            t = 2000000 // gcd(2000000, num)
-            if t <= 1000:
-                out.append((d, c, t))
+    for across in (0, 1):
+        for d in range(6, 31):
+            for c in Model.density:
+                num, den = middle_term(d, c, across)
+                t = den // gcd(den, num)
+                if t <= 1000:
+                    out.append((d, c, across, t))
     return out
 
 
@@ -597,21 +627,21 @@ def tie_values(r):
         for m, (c, g, t) in enumerate(((c1, g1, ts[0]), (c2, g2, ts[1]))):
             v["members"][m].update({"class": c, "grain": g ^ flip, "t": t})
     elif way < 0.7:
-        d, c, least = r.choice(MIDDLE_TIES)
+        d, c, across, least = r.choice(MIDDLE_TIES)
         g = r.randint(0, 1)
         v.update(p=2, d=d, steel=3)
         t = least * r.randint(-(-200 // least), max(-(-200 // least), 400 // least))
         v["members"][0].update({"class": c, "grain": g, "t": 4000})
         v["members"][1].update({"class": c, "grain": g, "t": t})
         f = r.choice((-1, 1)) * r.randint(1, 50000)
-        v["force"] = (f, 0) if g == 0 else (0, f)
+        v["force"] = (f, 0) if g == across else (0, f)
         if r.random() < 0.5:
             # the use too: each dowel a row of its own, force a multiple of R
-            num = 82 * (100 - d) * DENSITY[c] * d * t
-            cap = num // 2000000
+            num, den = middle_term(d, c, across)
+            cap = num * t // den
             m = r.randint(1, 20)
             f = cap * m if cap * m <= 1000000 else cap
-            v["force"] = (f, 0) if g == 0 else (0, f)
+            v["force"] = (f, 0) if g == across else (0, f)
             v.update(service=3, duration=1)
             row_of(v, 13, 50 * d, g, apart=30 * d)
             outlines(v, none)
@@ -676,9 +706,9 @@ def hair_values(r):
 
 U8_FIELDS = [  # label, part (kind), place in the part, values
     ("p", 1, 1, (0, 1, 2, 3, 255)),
-    ("class 1", 1, 2, (0, 1, 2, 3, 4, 5, 6, 7, 8, 9, 255)),
+    ("class 1", 1, 2, (*range(13), 255)),
     ("grain 1", 1, 3, (0, 1, 2, 255)),
-    ("class 2", 1, 22, (0, 1, 2, 3, 4, 5, 6, 7, 8, 9, 255)),
+    ("class 2", 1, 22, (*range(13), 255)),
     ("grain 2", 1, 23, (0, 1, 2, 255)),
     ("d", 2, 1, (0, 5, 6, 7, 8, 9, 12, 29, 30, 31, 255)),
     ("steel", 2, 2, (0, 1, 2, 3, 4, 255)),
@@ -730,26 +760,62 @@ def field_records():
                 yield ("field %s force %d %d" % (base_label, k, x),
                        put(4, 3 + 4 * k, struct.pack("<i", x)))
     # every class, steel, service class and duration where each of them tells
-    for c1 in range(1, 9):
-        for c2 in range(1, 9):
-            v = wide_b(p=1, d=8)
-            v["members"][0].update({"class": c1, "t": 300})
-            v["members"][1].update({"class": c2, "t": 300, "grain": 1})
-            yield "classes %d %d" % (c1, c2), write(v)
+    for c1 in range(1, 12):
+        for c2 in range(1, 12):
+            for force in ((20000, 0), (0, 20000), (-300, 400)):
+                v = wide_b(p=1, d=8, force=force)
+                v["members"][0].update({"class": c1, "t": 300})
+                v["members"][1].update({"class": c2, "t": 300, "grain": 1})
+                yield "classes %d %d" % (c1, c2), write(v)
     for steel in (1, 2, 3):
         for service in (1, 2, 3):
             for duration in (1, 2, 3, 4, 5):
                 yield ("steel %d service %d duration %d" % (steel, service, duration),
                        write(wide_b(steel=steel, service=service, duration=duration)))
+    yield from diameter_records(1, 1, 0)
+
+
+def diameter_records(c1, c2, g2):
+    """Every diameter; classes of both members, grain of member 2."""
     for d in range(6, 31):
         for force in ((1000, 0), (0, 1000), (300, -400)):
             for p in (1, 2):
                 v = wide_b(d=d, p=p, force=force)
+                v["members"][0]["class"] = c1
+                v["members"][1].update({"class": c2, "grain": g2})
                 yield "d %d p %d" % (d, p), write(v)
                 v["members"][0]["t"] = 300
                 yield "d %d p %d thin side" % (d, p), write(v)
                 v["members"][0]["t"], v["members"][1]["t"] = 4000, 200
                 yield "d %d p %d thin middle" % (d, p), write(v)
+
+
+def hardwood_joints():
+    """Request A1: (name, record).  Joint B with each hardwood in the side members, in the middle one and in both;
+    as it is, and in wide outlines with other diameters, grains and forces."""
+    for c, trade in zip(HARDWOODS, ("d30", "d40", "d70")):
+        for where, members in (("side", (0,)), ("middle", (1,)), ("both", (0, 1))):
+            v = joint_b()
+            for m in members:
+                v["members"][m]["class"] = c
+            yield "b-%s-%s" % (trade, where), write(v)
+            for m in v["members"]:
+                m["outline"] = [-90000, -90000, 90000, 90000]
+            grains = ((0, 0), (0, 1), (1, 0), (1, 1)) if (trade, where) == ("d30", "both") else ((0, 0), (0, 1))
+            for d, step in ((6, 600), (12, 600), (30, 1500)):
+                for g1, g2 in grains:
+                    for force in ((20000, 0), (0, 20000), (3000, 4000)):
+                        w = dict(copy(v), d=d, dowels=square(step), force=force)
+                        w["members"][0]["grain"], w["members"][1]["grain"] = g1, g2
+                        name = "%s-%s-%dmm-%s-%s-%d-%d" % (trade, where, d, "xy"[g1], "xy"[g2], *force)
+                        yield name, write(w)
+
+
+def hardwood_records():
+    for name, data in hardwood_joints():
+        yield "hardwood " + name, data
+    for c1, c2, g2 in ((9, 9, 0), (1, 10, 1), (11, 2, 1)):
+        yield from diameter_records(c1, c2, g2)
 
 
 def layout_records():
@@ -867,7 +933,7 @@ def order_records():
     """Two faults at once, each earlier and each later."""
     def pick(v, name):
         if name == 7:
-            v["members"][1]["class"] = 9
+            v["members"][1]["class"] = 12
         elif name == "7 load":
             v["duration"] = 6
         elif name == 8:
@@ -996,6 +1062,15 @@ def tie_records():
         v["members"][0].update({"class": 5, "t": 500})
         v["members"][1].update({"class": 1, "grain": 1, "t": 4000})
         yield "R 4,797", write(v)
+    for k in (1, 2, 100, 250000):
+        v = wide_b(p=1, d=15, steel=3, force=(3 * k, 4 * k))
+        v["members"][0].update({"class": 2, "t": 4000})
+        v["members"][1].update({"class": 11, "t": 216})
+        yield "R 6,273", write(v)
+    v = wide_b(p=1, d=15, steel=3, force=(-50, 120))
+    v["members"][0].update({"class": 10, "t": 4000})
+    v["members"][1].update({"class": 10, "grain": 1, "t": 300})
+    yield "R 6,929", write(v)
     v = wide_b(d=10, steel=3, force=(1000, 0))
     v["members"][0]["t"], v["members"][1]["t"] = 4000, 200
     yield "R 2,583", write(v)
@@ -1060,7 +1135,7 @@ def systematic():
     for name, data, _ in samples():
         yield "sample " + name, data
     for group in (tie_records, force_records, order_records, field_records, layout_records,
-                  spacing_records):
+                  spacing_records, hardwood_records):
         yield from group()
 
 

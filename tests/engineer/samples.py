@@ -1,4 +1,4 @@
-"""Writes the samples of 'Joints to try' and the line of each into a folder.
+"""Writes the samples of records.py and the line of each into a folder.
 
   samples.py FOLDER           writes *.rec and lines.txt
   samples.py --check FOLDER   compares them with what it would write

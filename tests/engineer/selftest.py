@@ -1,7 +1,7 @@
-"""Tests of the engineer itself: against the figures that document 01 prints, and against
-its sentences taken literally with fractions.
+"""Tests of the engineer itself: against the figures that document 01 and request A1 print, and
+against their sentences taken literally with fractions.
 
-  selftest.py [--count N] [--seed S]
+  selftest.py [--count N] [--seed S]     with N records made by chance
 """
 import argparse
 from fractions import Fraction
@@ -24,9 +24,9 @@ class Literal:
         for m in (0, 1):
             along = (j.fx, j.fy)[j.grain[m]]
             cos2 = along ** 2 / self.f2
-            k90 = Fraction("1.35") + Fraction("0.015") * j.d
+            k90 = Fraction("1.35" if j.cls[m] <= 8 else "0.90") + Fraction("0.015") * j.d
             self.f.append(Fraction("0.082") * (1 - Fraction("0.01") * j.d)
-                          * (350, 380, 385, 365, 425, 390, 440, 400)[j.cls[m] - 1]
+                          * (350, 380, 385, 365, 425, 390, 440, 400, 530, 550, 900)[j.cls[m] - 1]
                           / (k90 * (1 - cos2) + cos2))
         f1, f2 = self.f
         fu = (360, 430, 510)[j.steel - 1]
@@ -127,7 +127,7 @@ class Literal:
 
 
 def printed():
-    """The figures printed in document 01."""
+    """The figures printed in document 01, and those of a joint of both kinds of wood."""
     for name, data, want in records.samples():
         ref = engineer.Reference(data)
         if isinstance(want, str):
@@ -143,6 +143,16 @@ def printed():
                         (26917, "overloaded")):
         data = records.write(records.joint_b(force=(fx, 0)))
         assert engineer.Reference(data).describe().split()[0] == verdict, fx
+
+
+def hardwood():
+    """The figures of request A1's example, and of the same joint with softwood's k90."""
+    data = dict(records.hardwood_joints())["d30-both-12mm-x-x-0-20000"]
+    kept = engineer.WOOD[9]
+    for kind, said in ((engineer.HARDWOOD, (8810, 8811)), (engineer.SOFTWOOD, (7401, 7402))):
+        engineer.WOOD[9] = (kind, 530)
+        assert engineer.Reference(data).values().ranges()[1] == said, kind
+    engineer.WOOD[9] = kept
 
 
 def ties():
@@ -165,10 +175,9 @@ def ties():
 def literal(seed, count):
     r = Random(seed)
     accepted = spaced = 0
-    for n, (label, data) in enumerate(records.stream(seed, 10 ** 9)):
-        if n >= count:
-            break
-        if n % 7 and n < 9000:
+    systematic = sum(1 for _ in records.systematic())
+    for n, (label, data) in enumerate(records.stream(seed, systematic + count)):
+        if n % 7 and n < systematic:
             continue                            # a seventh of the systematic records
         j = engineer.read(data)
         if not isinstance(j, engineer.Joint):
@@ -214,10 +223,11 @@ def literal(seed, count):
 
 def main():
     p = argparse.ArgumentParser(description=__doc__)
-    p.add_argument("--count", type=int, default=11000)
+    p.add_argument("--count", type=int, default=1000)
     p.add_argument("--seed", type=int, default=5)
     a = p.parse_args()
     printed()
+    hardwood()
     ties()
     spaced, accepted = literal(a.seed, a.count)
     print("printed figures and ties right; %d spacings and %d joints as the literal text has them"

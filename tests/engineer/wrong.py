@@ -562,7 +562,7 @@ for _field, (_low, _high) in Model.limits.items():
         # the tables go on a little, so that a wider limit gives an answer and no crash
         changed("limits", "%s from %d to %d" % (_field, _limit[0], _limit[1]),
                 limits=dict(Model.limits, **{_field: tuple(_limit)}),
-                density=Model.density | {0: 350, 9: 350}, fu=Model.fu | {0: 360, 4: 510},
+                density=Model.density | {0: 350, 12: 350}, fu=Model.fu | {0: 360, 4: 510},
                 kmod_dry=Model.kmod_dry + (110,), kmod_wet=Model.kmod_wet + (90,),
                 twice_t=lambda self: Model.twice_t(self) or 1)
 
@@ -573,10 +573,9 @@ changed(CAP, "the other member's angle", bearing_squares=lambda self, m: self.sq
 changed(CAP, "member 2's angle for both bearings", bearing_squares=lambda self, m: self.squares(1))
 changed(CAP, "sine and cosine exchanged", bearing_squares=lambda self, m: (
     self.squares(m)[1], self.squares(m)[0], self.squares(m)[2]))
-changed(CAP, "k90 = 1 for d <= 8", k90=lambda self: 1000 if self.d <= 8 else 1350 + 15 * self.d)
-changed(CAP, "k90 = 1 for d <= 6", k90=lambda self: 1000 if self.d <= 6 else 1350 + 15 * self.d)
-changed(CAP, "k90 = 1.35", k90=lambda self: 1350)
-changed(CAP, "k90 of hardwood", k90=lambda self: 900 + 15 * self.d)
+changed(CAP, "k90 = 1 for d <= 8", k90=lambda self, m: 1000 if self.d <= 8 else Model.k90(self, m))
+changed(CAP, "k90 = 1 for d <= 6", k90=lambda self, m: 1000 if self.d <= 6 else Model.k90(self, m))
+changed(CAP, "k90 without d", k90=lambda self, m: Model.k90(self, m) - 15 * self.d)
 changed(CAP, "s and c exchanged", s_squared=Model.c_squared, c_squared=Model.s_squared)
 changed(CAP, "s for both", c_squared=Model.s_squared)
 changed(CAP, "c for both", s_squared=Model.c_squared)
@@ -635,6 +634,7 @@ for _c in Model.density:
     for _by in (-5, 5):
         changed("tables", "density of class %d by %d" % (_c, _by),
                 density=Model.density | {_c: Model.density[_c] + _by})
+    changed("tables", "class %d of the other kind" % _c, hardwood=Model.hardwood ^ {_c})
 for _s in Model.fu:
     changed("tables", "fu of steel %d by 10" % _s, fu=Model.fu | {_s: Model.fu[_s] + 10})
 for _k in range(5):
@@ -643,6 +643,45 @@ for _k in range(5):
             _new = list(getattr(Model, _table))
             _new[_k] += _by
             changed("tables", "%s of duration %d by %d" % (_table, _k + 1, _by), **{_table: tuple(_new)})
+
+# -------------------------------------------------------------------------- hardwood
+
+WOOD = "hardwood"
+
+
+def mixed(self):
+    return len({c in self.hardwood for c in self.cls}) == 2
+
+
+def accepts_in(m, classes):
+    """Member m's class is one of these."""
+    def test_fields(self):
+        kept = self.cls[m]
+        self.cls[m] = 1 if kept in classes else 0
+        Model.test_fields(self)
+        self.cls[m] = kept
+    return test_fields
+
+
+changed(WOOD, "softwood's k90 for hardwood", hardwood=set())
+changed(WOOD, "hardwood's k90 for softwood", hardwood=set(Model.density))
+changed(WOOD, "k90 of member 1 for both", k90=lambda self, m: Model.k90(self, 0))
+changed(WOOD, "k90 of member 2 for both", k90=lambda self, m: Model.k90(self, 1))
+changed(WOOD, "k90 exchanged between the members", k90=lambda self, m: Model.k90(self, 1 - m))
+changed(WOOD, "softwood's k90 in mixed joints", k90=lambda self, m: 1350 + 15 * self.d if mixed(self)
+        else Model.k90(self, m))
+changed(WOOD, "hardwood's k90 in mixed joints", k90=lambda self, m: 900 + 15 * self.d if mixed(self)
+        else Model.k90(self, m))
+changed(WOOD, "k90 not below 1", k90=lambda self, m: max(1000, Model.k90(self, m)))
+changed(WOOD, "k90 = 1 for hardwood", k90=lambda self, m: 1000 if self.cls[m] in self.hardwood else Model.k90(self, m))
+changed(WOOD, "class 9 refused still", limits=dict(Model.limits, **{"class": (1, 8)}))
+for _m in (0, 1):
+    for _c in (0, 9, 10, 11, 12, 255):
+        _says = "refused still" if _c in Model.density else "accepted"
+        changed(WOOD, "class %d %s in member %d" % (_c, _says, _m + 1),
+                test_fields=accepts_in(_m, set(Model.density) ^ {_c}), density={_c: 350} | Model.density)
+for _c, _other in ((9, 10), (10, 9), (10, 11), (11, 10), (9, 8), (8, 9)):
+    changed(WOOD, "density of class %d for %d" % (_other, _c), density=Model.density | {_c: Model.density[_other]})
 
 # ------------------------------------------------------------------------------ rows
 
