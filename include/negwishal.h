@@ -28,6 +28,21 @@ enum {
 /* How many numbers a report takes. */
 enum { NEGWISHAL_FIELDS = 8 };
 
+/* Classes of wood, as a record's members name them: softwood, then hardwood. */
+enum {
+    NEGWISHAL_C24 = 1,
+    NEGWISHAL_C30 = 2,
+    NEGWISHAL_GL24H = 3,
+    NEGWISHAL_GL24C = 4,
+    NEGWISHAL_GL28H = 5,
+    NEGWISHAL_GL28C = 6,
+    NEGWISHAL_GL32H = 7,
+    NEGWISHAL_GL32C = 8,
+    NEGWISHAL_D30 = 9,
+    NEGWISHAL_D40 = 10,
+    NEGWISHAL_D70 = 11
+};
+
 /* Verdicts. */
 enum {
     NEGWISHAL_REFUSED = 0,

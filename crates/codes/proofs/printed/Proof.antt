@@ -3,6 +3,7 @@ use Prim.Native.Nat.{ℕ}
 use mathlib.Core.Path.{_≡_, refl, ap, sym, _∙_}
 use borrow.Author.Tests.{ne-eqb}
 use Rattle.codes.specs.declared.Class.{Class}
+use Rattle.codes.specs.declared.Class.the-variants.{Unknown}
 use Rattle.codes.specs.Tables.{softwood, hardwood, printedClasses, woodOf}
 use Rattle.codes.proofs.printed.Statement.{statement}
 use Rattle.codes.proofs.printed.Tie as tie
@@ -10,6 +11,37 @@ use Rattle.codes.proofs.printed.Tie as tie
 -- the answer is the entry of the table's line k
 at-line : (k : ℕ) (entry : Class) → entry ≡ woodOf k → {code : ℕ} {r : Class} → code ≡ k → r ≡ entry → r ≡ woodOf code
 at-line k entry line key answer = answer ∙ line ∙ ap woodOf (sym key)
+
+-- a code of no line
+no-line :
+    (n : ℕ)
+    → (n ≡ 1 → ⊥)
+    → (n ≡ 2 → ⊥)
+    → (n ≡ 3 → ⊥)
+    → (n ≡ 4 → ⊥)
+    → (n ≡ 5 → ⊥)
+    → (n ≡ 6 → ⊥)
+    → (n ≡ 7 → ⊥)
+    → (n ≡ 8 → ⊥)
+    → (n ≡ 9 → ⊥)
+    → (n ≡ 10 → ⊥)
+    → (n ≡ 11 → ⊥)
+    → Unknown ≡ woodOf n
+unfolding woodOf printedClasses
+no-line n h1 h2 h3 h4 h5 h6 h7 h8 h9 h10 h11 =
+    simp (
+      ne-eqb n 1 h1,
+      ne-eqb n 2 h2,
+      ne-eqb n 3 h3,
+      ne-eqb n 4 h4,
+      ne-eqb n 5 h5,
+      ne-eqb n 6 h6,
+      ne-eqb n 7 h7,
+      ne-eqb n 8 h8,
+      ne-eqb n 9 h9,
+      ne-eqb n 10 h10,
+      ne-eqb n 11 h11,
+    )
 
 pub printed-spec : {M : Type 1} → statement M
 unfolding woodOf printedClasses
@@ -39,16 +71,16 @@ printed-spec =
     (λ c. at-line 10 (hardwood 550) refl (c .before .match .keys10) (c .hardwood2 .ensures))
     (λ c. at-line 11 (hardwood 900) refl (c .before .match .keys11) (c .hardwood3 .ensures))
     (λ c. ap woodOf (sym (c .match .keys12)))
-    (λ c. simp (
-      ne-eqb _ _ (c .match .rest .0 .0 .0 .0 .0 .0 .0 .0 .0 .0 .0 .1),
-      ne-eqb _ _ (c .match .rest .0 .0 .0 .0 .0 .0 .0 .0 .0 .0 .1),
-      ne-eqb _ _ (c .match .rest .0 .0 .0 .0 .0 .0 .0 .0 .0 .1),
-      ne-eqb _ _ (c .match .rest .0 .0 .0 .0 .0 .0 .0 .0 .1),
-      ne-eqb _ _ (c .match .rest .0 .0 .0 .0 .0 .0 .0 .1),
-      ne-eqb _ _ (c .match .rest .0 .0 .0 .0 .0 .0 .1),
-      ne-eqb _ _ (c .match .rest .0 .0 .0 .0 .0 .1),
-      ne-eqb _ _ (c .match .rest .0 .0 .0 .0 .1),
-      ne-eqb _ _ (c .match .rest .0 .0 .0 .1),
-      ne-eqb _ _ (c .match .rest .0 .0 .1),
-      ne-eqb _ _ (c .match .rest .0 .1),
-    )))
+    (λ c. no-line _
+    (c .match .rest .0 .0 .0 .0 .0 .0 .0 .0 .0 .0 .0 .1)
+    (c .match .rest .0 .0 .0 .0 .0 .0 .0 .0 .0 .0 .1)
+    (c .match .rest .0 .0 .0 .0 .0 .0 .0 .0 .0 .1)
+    (c .match .rest .0 .0 .0 .0 .0 .0 .0 .0 .1)
+    (c .match .rest .0 .0 .0 .0 .0 .0 .0 .1)
+    (c .match .rest .0 .0 .0 .0 .0 .0 .1)
+    (c .match .rest .0 .0 .0 .0 .0 .1)
+    (c .match .rest .0 .0 .0 .0 .1)
+    (c .match .rest .0 .0 .0 .1)
+    (c .match .rest .0 .0 .1)
+    (c .match .rest .0 .1)
+    ))
