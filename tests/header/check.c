@@ -106,6 +106,24 @@ int main(int argc, char **argv)
     expect("what the overloaded joint returns", judged(b, nb, report, 8), 0, 0);
     fields("the overloaded joint", report, over_low, over_high);
 
+    /* the classes of members 1 and 2 stand in bytes 22 and 42 */
+    static const uint8_t classes[11] = {NEGWISHAL_C24, NEGWISHAL_C30, NEGWISHAL_GL24H, NEGWISHAL_GL24C,
+                                        NEGWISHAL_GL28H, NEGWISHAL_GL28C, NEGWISHAL_GL32H, NEGWISHAL_GL32C,
+                                        NEGWISHAL_D30, NEGWISHAL_D40, NEGWISHAL_D70};
+    static const uint64_t unknown[8] = {0, 7, 0, 0, 0, 0, 0, 0};
+    for (uint8_t k = 0; k < 11; k++) {
+        expect("a class's code", classes[k], k + 1u, k + 1u);
+        b[22] = b[42] = classes[k];
+        expect("what a class returns", judged(b, nb, report, 8), 0, 0);
+        expect("a class's refusal", report[NEGWISHAL_NUMBER], 0, 0);
+    }
+    for (int at = 22; at <= 42; at += 20) {
+        b[22] = b[42] = NEGWISHAL_D30;
+        b[at] = NEGWISHAL_D70 + 1;
+        expect("what an unknown class returns", judged(b, nb, report, 8), 0, 0);
+        fields("the unknown class", report, unknown, unknown);
+    }
+
     printf("header: %d tests, %d faults\n", tests, faults);
     return faults != 0;
 }
