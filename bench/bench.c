@@ -14,7 +14,7 @@
 #define BATCHES 41
 #define BATCH_NS 4000000.0
 #define TIMED 5
-#define JOINTS 6 /* the timed ones, and one whose answers are only compared */
+#define JOINTS 6 /* the timed ones, and one that is not timed */
 
 static const struct {
     const char *name;

@@ -1,4 +1,4 @@
-"""Tests of the engineer itself: against the figures that document 01 and request A1 print, and
+"""Tests of the engineer itself: against the figures that document 01 prints, a joint of D30 worked out by the formulas, and
 against their sentences taken literally with fractions.
 
   selftest.py [--count N] [--seed S]     with N records made by chance
@@ -146,7 +146,7 @@ def printed():
 
 
 def hardwood():
-    """The figures of request A1's example, and of the same joint with softwood's k90."""
+    """D30 in both members, the force across the grain; and the same joint with softwood's k90."""
     data = dict(records.hardwood_joints())["d30-both-12mm-x-x-0-20000"]
     kept = engineer.WOOD[9]
     for kind, said in ((engineer.HARDWOOD, (8810, 8811)), (engineer.SOFTWOOD, (7401, 7402))):

@@ -8,10 +8,9 @@ use borrow.Author.Tests.{leb-true}
 use lib.Dec.{leb, eqb}
 use Rattle.codes.specs.declared.Kind.{Kind}
 use Rattle.codes.specs.declared.Kind.the-variants.{Softwood, Hardwood}
-use Rattle.codes.specs.declared.Wood.{Wood}
 use Rattle.codes.specs.declared.Class.{Class}
 use Rattle.codes.specs.declared.Class.the-variants.{Known, Unknown}
-use Rattle.codes.specs.Tables.{Line, lookup, printedClasses, woodOf, isKnown, woodIn, k90Of}
+use Rattle.codes.specs.Tables.{Line, lookup, printedClasses, classOf, isKnown, isClass, woodIn, woodOf, k90Of}
 
 -- every line of a table passes a test
 allPass : {A : Type 0} → (A → Bool) → List (Line A) → Bool
@@ -36,15 +35,14 @@ densityTest : Class → Bool
 densityTest (Known w) = leb 290 (w .density) && leb (w .density) 1100
 densityTest Unknown = true
 
-density-tested : (code : ℕ) → densityTest (woodOf code) ≡ true
-unfolding woodOf printedClasses densityTest allPass
+density-tested : (code : ℕ) → densityTest (classOf code) ≡ true
+unfolding classOf printedClasses densityTest allPass
 density-tested = lookup-passes densityTest Unknown printedClasses refl refl
 
 pub density-within :
-    (code : ℕ) → isKnown (woodOf code) ≡ true →
-    (290 ≤ woodIn (woodOf code) .density) × (woodIn (woodOf code) .density ≤ 1100)
+    (code : ℕ) → isClass code ≡ true → (290 ≤ woodOf code .density) × (woodOf code .density ≤ 1100)
 unfolding densityTest
-density-within code known = go (woodOf code) known (density-tested code)
+density-within code known = go (classOf code) known (density-tested code)
   where
     go : (c : Class) → isKnown c ≡ true → densityTest c ≡ true → (290 ≤ woodIn c .density) × (woodIn c .density ≤ 1100)
     go (Known w) k t =

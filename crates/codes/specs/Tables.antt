@@ -48,18 +48,25 @@ printedClasses =
     ∷ line 11 (hardwood 900)
     ∷ []
 
-unfoldable pub woodOf : ℕ → Class
-woodOf = lookup Unknown printedClasses
+-- what the table has at a code
+unfoldable pub classOf : ℕ → Class
+classOf = lookup Unknown printedClasses
 
--- the table has the class
+-- whether it has the code
 abbrev pub isKnown : Class → Bool
 isKnown (Known w) = true
 isKnown Unknown = false
 
--- the wood itself; every class of an accepted record is known
+abbrev pub isClass : ℕ → Bool
+isClass code = isKnown (classOf code)
+
+-- the wood at a code; every class of an accepted record is known
 abbrev pub woodIn : Class → Wood
 woodIn (Known w) = w
 woodIn Unknown = record { kind = Softwood; density = 0 }
+
+abbrev pub woodOf : ℕ → Wood
+woodOf code = woodIn (classOf code)
 
 -- k90 in thousandths, d in mm: 1.35 + 0.015 d for softwood (000, (194)), 0.90 + 0.015 d for hardwood (000, (195)); for every d, 000's
 -- k90 = 1 for thin dowels is not used

@@ -3,16 +3,16 @@ ghost use mathlib.Core.Path.{_≡_};
 ghost use Rattle.codes.specs.Tables.{
   softwood,
   hardwood,
+  classOf,
+  isClass,
   woodOf,
-  isKnown,
-  woodIn,
   steelOf,
   kmodOf,
   listed,
   k90Of,
 };
 
-// What k90 depends on beside the diameter.
+// Kind of wood: k90 depends on it.
 pub enum Kind {
     Softwood,
     Hardwood,
@@ -55,8 +55,8 @@ fn hardwood(density: u64) -> Class
 }
 
 // The printed table of classes.
-pub fn printed(class: u8) -> Class
-    ensures { λ r. ⌜ r ≡ woodOf class ⌝ }
+pub fn class_of(class: u8) -> Class
+    ensures { λ r. ⌜ r ≡ classOf class ⌝ }
 {
     match class {
         1 => softwood(350),
@@ -76,20 +76,20 @@ pub fn printed(class: u8) -> Class
 
 // Whether the table has the class.
 pub fn is_class(class: u8) -> bool
-    ensures { λ r. ⌜ r ≡ isKnown (woodOf class) ⌝ }
+    ensures { λ r. ⌜ r ≡ isClass class ⌝ }
 {
-    let found = printed(class);
+    let found = class_of(class);
     match found {
         Class::Known(_) => true,
         Class::Unknown => false,
     }
 }
 
-// The wood of a class, of no density where the table lacks it.
+// The wood of a class, with density 0 where the table lacks it.
 pub fn wood_of(class: u8) -> Wood
-    ensures { λ r. ⌜ r ≡ woodIn (woodOf class) ⌝ }
+    ensures { λ r. ⌜ r ≡ woodOf class ⌝ }
 {
-    let found = printed(class);
+    let found = class_of(class);
     match found {
         Class::Known(w) => w,
         Class::Unknown => Wood {

@@ -1,4 +1,5 @@
--- The starred joints of 01 follow from the definitions: every report for which the top claim holds says what 01 prints.
+-- The starred joints of 01, and two of oak, follow from the definitions: every report for which the top claim holds says what stands
+-- beside them.
 use Prim.Native.Nat.{ℕ, zero, suc, _+_, _*_, _≤_, _<_}
 use mathlib.Core.Path.{_≡_, refl, sym, ap, _∙_, subst, subst⁻¹}
 use mathlib.Core.List.{List, [], _∷_, map}
@@ -11,7 +12,7 @@ use lib.ListN.{getD, replicate}
 use Rattle.numbers.specs.Numbers.{twosComplement, i32At, coordinate, force}
 use Rattle.strength.specs.Fraction.{Fraction, _over_, whole, _↑_, _≼_}
 use Rattle.strength.specs.Shear.{AtMostR, bearing}
-use Rattle.codes.specs.Tables.{printedClasses, woodOf, steelOf, kmodOf}
+use Rattle.codes.specs.Tables.{printedClasses, classOf, steelOf, kmodOf}
 use Rattle.strength.proofs.Falling.{falls}
 use Rattle.spacing.specs.declared.verdict.Fault.{Fault}
 use Rattle.spacing.specs.Spacing.{alongEnough, endPasses}
@@ -49,11 +50,11 @@ none = fault 0 0 0 0
 abbrev refusals : List Fault
 refusals =
     none ∷ none ∷ none ∷ fault 10 1 1 2 ∷ fault 11 2 2 0 ∷ fault 12 1 3 0 ∷ none ∷ fault 7 0 0 0 ∷ none ∷ none
-    ∷ fault 10 1 1 2 ∷ none ∷ []
+    ∷ fault 10 1 1 2 ∷ none ∷ none ∷ []
 
 refused-as : map (λ (s : Starred). refusalOf (s .bytes)) starred ≡ refusals
 unfolding refusalOf refusalNumber firstHolding refusal1 refusal2 refusal3 numberAt bound allFollow chained refusal4 oneIf once refusal5 positionsLength
-    refusal6 coordinate force woodOf printedClasses outlineWithin memberWithin membersWithin dowelWithin coordinates positionsWithin
+    refusal6 coordinate force classOf printedClasses outlineWithin memberWithin membersWithin dowelWithin coordinates positionsWithin
     loadsWithin fieldsWithin outlineEmpty emptyOutlines noForce drillFault twosComplement i32At partOfPair pairOfKind
     outlineAt memberAt membersIn dowelIn column positionsIn loadsIn valuesOf pairFault endFault edgeFault verdictIn
     memberVerdict spacingVerdict alongEnough endPasses firstFrom partner firstPair
@@ -69,19 +70,19 @@ fourDowels = record {
 abbrev oneDowel : Positions
 oneDowel = record { n = 1; x = replicate 64 (pos 0); y = replicate 64 (pos 0) }
 
--- joint B with the class of both members, fx, fy, t1 and the positions
-abbrev kinOf : ℕ → ℕ → ℕ → ℕ → Positions → Values
-kinOf class fx fy t1 places = record {
+-- joint B with the members' classes, fx, fy, t1 and the positions
+abbrev kinOf : ℕ → ℕ → ℕ → ℕ → ℕ → Positions → Values
+kinOf class1 class2 fx fy t1 places = record {
   members = record {
     planes = 2;
     member1 = record {
-      class = class;
+      class = class1;
       grain = 0;
       thickness = t1;
       outline = record { x0 = negsuc 839; y0 = negsuc 359; x1 = pos 20000; y1 = pos 720 };
     };
     member2 = record {
-      class = class;
+      class = class2;
       grain = 0;
       thickness = 800;
       outline = record { x0 = negsuc 19999; y0 = negsuc 359; x1 = pos 1440; y1 = pos 720 };
@@ -92,20 +93,26 @@ kinOf class fx fy t1 places = record {
   loads = record { «service_class» = 1; duration = 3; fx = pos fx; fy = pos fy };
 }
 
--- of C24, with a force along x
+-- of C24, with a force along x; of D30, across; of D30 between C24, at an angle
 abbrev kin : ℕ → ℕ → Positions → Values
-kin fx t1 places = kinOf 1 fx 0 t1 places
+kin fx t1 places = kinOf 1 1 fx 0 t1 places
+
+abbrev oak : Values
+oak = kinOf 9 9 0 3000 600 oneDowel
+
+abbrev mixed : Values
+mixed = kinOf 1 9 3000 4000 600 oneDowel
 
 abbrev star : ℕ → Starred
 star k = getD starred k (record { bytes = []; prints = noRefusal })
 
 abbrev judgedStars : List ℕ
-judgedStars = 0 ∷ 1 ∷ 2 ∷ 6 ∷ 8 ∷ 11 ∷ []
+judgedStars = 0 ∷ 1 ∷ 2 ∷ 6 ∷ 8 ∷ 11 ∷ 12 ∷ []
 
 abbrev judgedValues : List Values
 judgedValues =
     kin 20000 600 fourDowels ∷ kin 26700 600 fourDowels ∷ kin 27000 600 fourDowels ∷ kin 20000 200 fourDowels
-    ∷ kin 3000 600 oneDowel ∷ kinOf 9 0 3000 600 oneDowel ∷ []
+    ∷ kin 3000 600 oneDowel ∷ oak ∷ mixed ∷ []
 
 values-as : map (λ (k : ℕ). valuesOf (star k .bytes)) judgedStars ≡ judgedValues
 unfolding twosComplement i32At partOfPair pairOfKind outlineAt memberAt membersIn dowelIn column positionsIn loadsIn valuesOf
@@ -135,9 +142,9 @@ refused-row bytes f e n r j = record {
 not-more : (a b : ℕ) → (b + 1 ≤ a → ⊥) → a ≤ b
 not-more a b f = omega (arith, lt-of-not-le f)
 
-module _ (class fx fy t1 : ℕ) (places : Positions) (p : Passed (kinOf class fx fy t1 places)) where
+module _ (class1 class2 fx fy t1 : ℕ) (places : Positions) (p : Passed (kinOf class1 class2 fx fy t1 places)) where
   abbrev j : Design
-  j = designOf (kinOf class fx fy t1 places)
+  j = designOf (kinOf class1 class2 fx fy t1 places)
 
   abbrev R : Fraction → Type 0
   R = AtMostR (j .plane)
@@ -279,82 +286,87 @@ module _ (k : ℕ) (v : Values) (a : refusalOf (star k .bytes) ≡ none) (e : va
   answered-as : (r : Report) → Judged (star k .bytes) r → Answered (designOf v) r
   answered-as r j = subst (λ (w : Values). Answered (designOf w) r) e (j .accepted (ap (λ (f : Fault). f .number) a))
 
--- the tests at numerals: at most R, with fx and t1; and for D30 across the grain
+-- the tests at numerals: at most R, with fx and t1 for C24
 abbrev AtMostIn : Values → Fraction → Type 0
 AtMostIn v = AtMostR (planeOf (v .members) (v .dowel) (v .loads))
 
 abbrev AtMost : ℕ → ℕ → Fraction → Type 0
 AtMost fx t1 = AtMostIn (kin fx t1 oneDowel)
 
-abbrev oak : Values
-oak = kinOf 9 0 3000 600 oneDowel
-
 abbrev rowOf2 : ℕ → Fraction → Fraction → Fraction
 rowOf2 fx e v = rowForce fx 2 e (whole 8) 80 v
 
 capacity-B : AtMost 20000 600 (whole 7441)
-unfolding planeIn bearing woodOf printedClasses steelOf
+unfolding planeIn bearing classOf printedClasses steelOf
 capacity-B = record { first = lit≤ tt; second = record { within = lit≤ tt; square = lit≤ tt }; third = lit≤ tt }
 
 total-B : AtMost 20000 600 (planeForce (whole 20000) (whole 8) 80 (74305 over 100000))
-unfolding planeIn bearing woodOf printedClasses steelOf
+unfolding planeIn bearing classOf printedClasses steelOf
 total-B = record { first = lit≤ tt; second = record { within = lit≤ tt; square = lit≤ tt }; third = lit≤ tt }
 
 rows-B : AtMost 20000 600 (rowOf2 20000 below2 (74305 over 100000))
-unfolding planeIn bearing woodOf printedClasses steelOf
+unfolding planeIn bearing classOf printedClasses steelOf
 rows-B = record { first = lit≤ tt; second = record { within = lit≤ tt; square = lit≤ tt }; third = lit≤ tt }
 
 above-B : (AtMost 20000 600 (whole 7442) → ⊥) × (AtMost 20000 600 (rowOf2 20000 above2 (7430 over 10000)) → ⊥)
-unfolding planeIn bearing woodOf printedClasses steelOf
+unfolding planeIn bearing classOf printedClasses steelOf
 above-B = (λ p. not-le-of-lt (lit< tt) (p .first), λ p. not-le-of-lt (lit< tt) (p .first))
 
 total-26700 : AtMost 26700 600 (planeForce (whole 26700) (whole 8) 80 (993 over 1000))
-unfolding planeIn bearing woodOf printedClasses steelOf
+unfolding planeIn bearing classOf printedClasses steelOf
 total-26700 = record { first = lit≤ tt; second = record { within = lit≤ tt; square = lit≤ tt }; third = lit≤ tt }
 
 rows-26700 : AtMost 26700 600 (rowOf2 26700 below2 (993 over 1000))
-unfolding planeIn bearing woodOf printedClasses steelOf
+unfolding planeIn bearing classOf printedClasses steelOf
 rows-26700 = record { first = lit≤ tt; second = record { within = lit≤ tt; square = lit≤ tt }; third = lit≤ tt }
 
 above-27000 : AtMost 27000 600 (rowOf2 27000 above2 (10000 over 10000)) → ⊥
-unfolding planeIn bearing woodOf printedClasses steelOf
+unfolding planeIn bearing classOf printedClasses steelOf
 above-27000 p = not-le-of-lt (lit< tt) (p .first)
 
 capacity-200 : AtMost 20000 200 (whole 2510)
-unfolding planeIn bearing woodOf printedClasses steelOf
+unfolding planeIn bearing classOf printedClasses steelOf
 capacity-200 = record { first = lit≤ tt; second = record { within = lit≤ tt; square = lit≤ tt }; third = lit≤ tt }
 
 above-200 : (AtMost 20000 200 (whole 2511) → ⊥) × (AtMost 20000 200 (rowOf2 20000 above2 (10000 over 10000)) → ⊥)
-unfolding planeIn bearing woodOf printedClasses steelOf
+unfolding planeIn bearing classOf printedClasses steelOf
 above-200 = (λ p. not-le-of-lt (lit< tt) (p .second .square), λ p. not-le-of-lt (lit< tt) (p .second .square))
 
 total-lone : AtMost 3000 600 (planeForce (whole 3000) (2 over 2) 80 (6552 over 10000))
-unfolding planeIn bearing woodOf printedClasses steelOf
+unfolding planeIn bearing classOf printedClasses steelOf
 total-lone = record { first = lit≤ tt; second = record { within = lit≤ tt; square = lit≤ tt }; third = lit≤ tt }
 
 rows-lone : AtMost 3000 600 (rowForce 3000 1 (whole 1) (2 over 2) 80 (6552 over 10000))
-unfolding planeIn bearing woodOf printedClasses steelOf
+unfolding planeIn bearing classOf printedClasses steelOf
 rows-lone = record { first = lit≤ tt; second = record { within = lit≤ tt; square = lit≤ tt }; third = lit≤ tt }
 
 above-lone : AtMost 3000 600 (planeForce (whole 3000) (2 over 2) 80 (6551 over 10000)) → ⊥
-unfolding planeIn bearing woodOf printedClasses steelOf
+unfolding planeIn bearing classOf printedClasses steelOf
 above-lone p = not-le-of-lt (lit< tt) (p .first)
 
 capacity-oak : AtMostIn oak (whole 8811)
-unfolding planeIn bearing woodOf printedClasses steelOf
+unfolding planeIn bearing classOf printedClasses steelOf
 capacity-oak = record { first = lit≤ tt; second = record { within = lit≤ tt; square = lit≤ tt }; third = lit≤ tt }
 
 total-oak : AtMostIn oak (planeForce (whole 3000) (2 over 2) 80 (5533 over 10000))
-unfolding planeIn bearing woodOf printedClasses steelOf
+unfolding planeIn bearing classOf printedClasses steelOf
 total-oak = record { first = lit≤ tt; second = record { within = lit≤ tt; square = lit≤ tt }; third = lit≤ tt }
 
 rows-oak : AtMostIn oak (rowForce 0 1 (whole 1) (2 over 2) 80 (5533 over 10000))
-unfolding planeIn bearing woodOf printedClasses steelOf
+unfolding planeIn bearing classOf printedClasses steelOf
 rows-oak = record { first = lit≤ tt; second = record { within = lit≤ tt; square = lit≤ tt }; third = lit≤ tt }
 
 above-oak : (AtMostIn oak (whole 8812) → ⊥) × (AtMostIn oak (planeForce (whole 3000) (2 over 2) 80 (5532 over 10000)) → ⊥)
-unfolding planeIn bearing woodOf printedClasses steelOf
+unfolding planeIn bearing classOf printedClasses steelOf
 above-oak = (λ p. not-le-of-lt (lit< tt) (p .first), λ p. not-le-of-lt (lit< tt) (p .first))
+
+capacity-mixed : AtMostIn mixed (whole 6082)
+unfolding planeIn bearing classOf printedClasses steelOf
+capacity-mixed = record { first = lit≤ tt; second = record { within = lit≤ tt; square = lit≤ tt }; third = lit≤ tt }
+
+above-mixed : (AtMostIn mixed (whole 6083) → ⊥) × (AtMostIn mixed (planeForce (whole 5000) (2 over 2) 80 (10000 over 10000)) → ⊥)
+unfolding planeIn bearing classOf printedClasses steelOf
+above-mixed = (λ p. not-le-of-lt (lit< tt) (p .second .square), λ p. not-le-of-lt (lit< tt) (p .second .square))
 
 -- ---- four dowels with fx and t1: a v that is enough, and one that is not
 above0 : (n d : ℕ) → 0 < n → 0 < d → Above0 (n over d)
@@ -366,13 +378,13 @@ module _ (fx t1 : ℕ) (p : Passed (kin fx t1 fourDowels)) where
       whole (fx * fx + 0 * 0) ≼ (whole fx ↑ 2) → Enough (designOf (kin fx t1 fourDowels)) u
   unfolding kmodOf
   four-enough u pu =
-      enough 1 fx 0 t1 fourDowels p 2 600 four-some four-every u below2 fx pu (above0 _ _ (lit< tt) (lit< tt))
+      enough 1 1 fx 0 t1 fourDowels p 2 600 four-some four-every u below2 fx pu (above0 _ _ (lit< tt) (lit< tt))
       (record { number = lit≤ tt; several = λ _. lit≤ tt })
 
   four-not : (u : Fraction) → (AtMost fx t1 (rowOf2 fx above2 u) → ⊥) → Enough (designOf (kin fx t1 fourDowels)) u → ⊥
   unfolding kmodOf
   four-not u =
-      not-enough 1 fx 0 t1 fourDowels p 2 600 four-some four-every u above2 (above0 _ _ (lit< tt) (lit< tt))
+      not-enough 1 1 fx 0 t1 fourDowels p 2 600 four-some four-every u above2 (above0 _ _ (lit< tt) (lit< tt))
       (several (lit< tt) (lit≤ tt))
 
 star-B : Holds (star 0)
@@ -380,14 +392,14 @@ star-B r j =
     let p = passed 0 (kin 20000 600 fourDowels) (refusal-at 0) (value-at 0) in
     let h = answered-as 0 (kin 20000 600 fourDowels) (refusal-at 0) (value-at 0) r j in
     let e = four-enough 20000 600 p (74305 over 100000) (above0 _ _ (lit< tt) (lit< tt)) total-B rows-B (lit≤ tt) in
-    let most = use-most 1 20000 0 600 fourDowels p (74305 over 100000) (r .usage) 7469 e (lit< tt) (h .usage) in
-    let least = use-least 1 20000 0 600 fourDowels p 7430 (r .usage) (lit< tt) (four-not 20000 600 p (7430 over 10000) (above-B .1)) (h .usage) in
+    let most = use-most 1 1 20000 0 600 fourDowels p (74305 over 100000) (r .usage) 7469 e (lit< tt) (h .usage) in
+    let least = use-least 1 1 20000 0 600 fourDowels p 7430 (r .usage) (lit< tt) (four-not 20000 600 p (7430 over 10000) (above-B .1)) (h .usage) in
     record {
       verdict = h .verdict ∙ sym (fits (r .usage) (omega arith));
       usage = record { from = least; to = most };
-      capacity = capacity-two 1 20000 0 600 fourDowels p 7440 (r .capacity) capacity-B (above-B .0) (h .capacity);
+      capacity = capacity-two 1 1 20000 0 600 fourDowels p 7440 (r .capacity) capacity-B (above-B .0) (h .capacity);
       share =
-          share-two 1 20000 0 600 fourDowels p 2 600 four-some four-every 7346 (r .share)
+          share-two 1 1 20000 0 600 fourDowels p 2 600 four-some four-every 7346 (r .share)
           (record { number = lit≤ tt; several = λ _. lit≤ tt }) (λ q. not-le-of-lt (lit< tt) (q .several (lit< tt))) (h .share);
     }
 
@@ -396,14 +408,14 @@ star-26700 r j =
     let p = passed 1 (kin 26700 600 fourDowels) (refusal-at 1) (value-at 1) in
     let h = answered-as 1 (kin 26700 600 fourDowels) (refusal-at 1) (value-at 1) r j in
     let e = four-enough 26700 600 p (993 over 1000) (above0 _ _ (lit< tt) (lit< tt)) total-26700 rows-26700 (lit≤ tt) in
-    h .verdict ∙ sym (fits (r .usage) (use-most 1 26700 0 600 fourDowels p (993 over 1000) (r .usage) 10000 e (lit< tt) (h .usage)))
+    h .verdict ∙ sym (fits (r .usage) (use-most 1 1 26700 0 600 fourDowels p (993 over 1000) (r .usage) 10000 e (lit< tt) (h .usage)))
 
 star-27000 : Holds (star 2)
 star-27000 r j =
     let p = passed 2 (kin 27000 600 fourDowels) (refusal-at 2) (value-at 2) in
     let h = answered-as 2 (kin 27000 600 fourDowels) (refusal-at 2) (value-at 2) r j in
     let n = four-not 27000 600 p (10000 over 10000) above-27000 in
-    h .verdict ∙ sym (overloaded (r .usage) (use-least 1 27000 0 600 fourDowels p 10000 (r .usage) (lit< tt) n (h .usage)))
+    h .verdict ∙ sym (overloaded (r .usage) (use-least 1 1 27000 0 600 fourDowels p 10000 (r .usage) (lit< tt) n (h .usage)))
 
 star-200 : Holds (star 6)
 star-200 r j =
@@ -411,8 +423,8 @@ star-200 r j =
     let h = answered-as 6 (kin 20000 200 fourDowels) (refusal-at 6) (value-at 3) r j in
     let n = four-not 20000 200 p (10000 over 10000) (above-200 .1) in
     record {
-      verdict = h .verdict ∙ sym (overloaded (r .usage) (use-least 1 20000 0 200 fourDowels p 10000 (r .usage) (lit< tt) n (h .usage)));
-      capacity = capacity-two 1 20000 0 200 fourDowels p 2509 (r .capacity) capacity-200 (above-200 .0) (h .capacity);
+      verdict = h .verdict ∙ sym (overloaded (r .usage) (use-least 1 1 20000 0 200 fourDowels p 10000 (r .usage) (lit< tt) n (h .usage)));
+      capacity = capacity-two 1 1 20000 0 200 fourDowels p 2509 (r .capacity) capacity-200 (above-200 .0) (h .capacity);
     }
 
 star-lone : Holds (star 8)
@@ -422,17 +434,17 @@ star-lone r j =
     let h = answered-as 8 (kin 3000 600 oneDowel) (refusal-at 8) (value-at 4) r j in
     let u = 6552 over 10000 in
     let e =
-    enough 1 3000 0 600 oneDowel p 1 0 one-some one-every u (whole 1) 3000 (above0 _ _ (lit< tt) (lit< tt)) (above0 _ _ (lit< tt) (lit< tt))
+    enough 1 1 3000 0 600 oneDowel p 1 0 one-some one-every u (whole 1) 3000 (above0 _ _ (lit< tt) (lit< tt)) (above0 _ _ (lit< tt) (lit< tt))
     (record { number = lit≤ tt; several = λ m. absurd (omega arith) }) total-lone rows-lone (lit≤ tt) in
     record {
       usage = record {
         from =
-            use-least 1 3000 0 600 oneDowel p 6551 (r .usage) (lit< tt)
+            use-least 1 1 3000 0 600 oneDowel p 6551 (r .usage) (lit< tt)
             (λ n. above-lone (n .total (whole 3000) (lit< tt) (lit≤ tt))) (h .usage);
-        to = use-most 1 3000 0 600 oneDowel p u (r .usage) 6586 e (lit< tt) (h .usage);
+        to = use-most 1 1 3000 0 600 oneDowel p u (r .usage) 6586 e (lit< tt) (h .usage);
       };
       share =
-          share-two 1 3000 0 600 oneDowel p 1 0 one-some one-every 9999 (r .share)
+          share-two 1 1 3000 0 600 oneDowel p 1 0 one-some one-every 9999 (r .share)
           (record { number = lit≤ tt; several = λ m. absurd (omega arith) }) (λ q. not-le-of-lt (lit< tt) (q .number)) (h .share);
     }
 
@@ -448,21 +460,34 @@ star-oak r j =
     let h = answered-as 11 oak (refusal-at 11) (value-at 5) r j in
     let u = 5533 over 10000 in
     let e =
-    enough 9 0 3000 600 oneDowel p 1 0 one-some one-every u (whole 1) 3000 (above0 _ _ (lit< tt) (lit< tt))
+    enough 9 9 0 3000 600 oneDowel p 1 0 one-some one-every u (whole 1) 3000 (above0 _ _ (lit< tt) (lit< tt))
     (above0 _ _ (lit< tt) (lit< tt)) (record { number = lit≤ tt; several = λ m. absurd (omega arith) }) total-oak rows-oak (lit≤ tt) in
-    let most = use-most 9 0 3000 600 oneDowel p u (r .usage) 5562 e (lit< tt) (h .usage) in
+    let most = use-most 9 9 0 3000 600 oneDowel p u (r .usage) 5562 e (lit< tt) (h .usage) in
     record {
       verdict = h .verdict ∙ sym (fits (r .usage) (omega arith));
       usage = record {
         from =
-            use-least 9 0 3000 600 oneDowel p 5532 (r .usage) (lit< tt)
+            use-least 9 9 0 3000 600 oneDowel p 5532 (r .usage) (lit< tt)
             (λ n. above-oak .1 (n .total (whole 3000) (lit< tt) (lit≤ tt))) (h .usage);
         to = most;
       };
-      capacity = capacity-two 9 0 3000 600 oneDowel p 8810 (r .capacity) capacity-oak (above-oak .0) (h .capacity);
+      capacity = capacity-two 9 9 0 3000 600 oneDowel p 8810 (r .capacity) capacity-oak (above-oak .0) (h .capacity);
       share =
-          share-two 9 0 3000 600 oneDowel p 1 0 one-some one-every 9999 (r .share)
+          share-two 9 9 0 3000 600 oneDowel p 1 0 one-some one-every 9999 (r .share)
           (record { number = lit≤ tt; several = λ m. absurd (omega arith) }) (λ q. not-le-of-lt (lit< tt) (q .number)) (h .share);
+    }
+
+star-mixed : Holds (star 12)
+unfolding kmodOf
+star-mixed r j =
+    let p = passed 12 mixed (refusal-at 12) (value-at 6) in
+    let h = answered-as 12 mixed (refusal-at 12) (value-at 6) r j in
+    let least =
+    use-least 1 9 3000 4000 600 oneDowel p 10000 (r .usage) (lit< tt)
+    (λ n. above-mixed .1 (n .total (whole 5000) (lit< tt) (lit≤ tt))) (h .usage) in
+    record {
+      verdict = h .verdict ∙ sym (overloaded (r .usage) least);
+      capacity = capacity-two 1 9 3000 4000 600 oneDowel p 6081 (r .capacity) capacity-mixed (above-mixed .0) (h .capacity);
     }
 
 pub stars : AllHold starred
@@ -482,7 +507,7 @@ stars = (
               star-200,
               (
                 refused-row _ _ (refusal-at 7) (λ e. omega arith),
-                (star-lone, (star-504, (refused-row _ _ (refusal-at 10) (λ e. omega arith), (star-oak, tt)))),
+                (star-lone, (star-504, (refused-row _ _ (refusal-at 10) (λ e. omega arith), (star-oak, (star-mixed, tt))))),
               ),
             ),
           ),

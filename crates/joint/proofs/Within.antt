@@ -7,7 +7,7 @@ use native.Mathlib.Nat.{mul-le-mul, mul-pos}
 use borrow.Author.Tests.{eqb-true}
 use lib.Dec.{eqb}
 use lib.IntN.{natAbs}
-use Rattle.codes.specs.Tables.{woodOf, woodIn, steelOf, kmodOf, listed}
+use Rattle.codes.specs.Tables.{woodOf, steelOf, kmodOf, listed}
 use Rattle.codes.proofs.Woods.{density-within, k90-low, k90-high}
 use Rattle.strength.specs.Shear.{MemberWithin, PlaneWithin}
 use Rattle.spacing.specs.Spacing.{squaredForce, Components}
@@ -77,7 +77,7 @@ module _ (v : Values) (f : FieldsHold v) (g : Components (v .dowel .diameter) (v
   member-within : (m : Member) → MemberHolds m → MemberWithin (planeMember (v .dowel .diameter) m (forceAlong (v .loads) m) total)
   member-within m h =
       let density = density-within (m .class) (h .class) in
-      let kind = woodIn (woodOf (m .class)) .kind in
+      let kind = woodOf (m .class) .kind in
       record {
         density-low = density .0;
         density-high = density .1;

@@ -5,7 +5,7 @@ use mathlib.Core.List.{[], _∷_}
 use lib.Dec.{eqb}
 use lib.IntN.{natAbs}
 use Rattle.strength.specs.Fraction.{Fraction, _over_, whole}
-use Rattle.codes.specs.Tables.{woodOf, woodIn, k90Of, steelOf, kmodOf, listed}
+use Rattle.codes.specs.Tables.{woodOf, k90Of, steelOf, kmodOf, listed}
 use Rattle.strength.specs.declared.plane.Timber.{Timber}
 use Rattle.strength.specs.declared.plane.Plane.{Plane}
 use Rattle.spacing.specs.Spacing.{along, across, squaredForce}
@@ -25,8 +25,8 @@ forceAlong l m = natAbs (along (m .grain) (l .fx) (l .fy))
 -- a member in a shear plane: the density of its class, k90 by the kind of its wood; cos²α is the squared component along over fx² + fy²
 abbrev pub planeMember : ℕ → Member → ℕ → ℕ → Timber
 planeMember d m c total = record {
-  density = woodIn (woodOf (m .class)) .density;
-  k90 = k90Of (woodIn (woodOf (m .class)) .kind) d;
+  density = woodOf (m .class) .density;
+  k90 = k90Of (woodOf (m .class) .kind) d;
   along = c * c;
   total = total;
   thickness = m .thickness;

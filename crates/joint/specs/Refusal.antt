@@ -8,7 +8,7 @@ use lib.IntN.{ℤ, pos, natAbs}
 use lib.Signed.{leZ}
 use lib.Dec.{ltb, leb, eqb}
 use Rattle.numbers.specs.Numbers.{u8At, coordinate, force}
-use Rattle.codes.specs.Tables.{woodOf, isKnown}
+use Rattle.codes.specs.Tables.{isClass}
 use Rattle.chain.specs.Chain.{chained}
 use Rattle.chain.specs.declared.Width.the-variants.{Two}
 use Rattle.joint.specs.Layout.{version, pairCount, kindOfPair, partOfKind, valuesOf}
@@ -79,10 +79,10 @@ between low high n = leb low n && leb n high
 unfoldable pub outlineWithin : Outline → Bool
 outlineWithin o = coordinate (o .x0) && coordinate (o .y0) && coordinate (o .x1) && coordinate (o .y1)
 
--- 'class u8': one that the table has; 'grain u8 (0 along x, 1 along y), thickness u16 from 200 to 4,000'
+-- 'class u8', which the table has (02, A1: it 'now runs to 11'); 'grain u8 (0 along x, 1 along y), thickness u16 from 200 to 4,000'
 unfoldable pub memberWithin : Member → Bool
 memberWithin m =
-    isKnown (woodOf (m .class)) && between 0 1 (m .grain) && between 200 4000 (m .thickness) && outlineWithin (m .outline)
+    isClass (m .class) && between 0 1 (m .grain) && between 200 4000 (m .thickness) && outlineWithin (m .outline)
 
 -- 'shear planes p, 1 or 2'
 unfoldable pub membersWithin : Members → Bool

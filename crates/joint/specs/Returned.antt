@@ -4,7 +4,7 @@ use mathlib.Core.Path.{_≡_}
 use mathlib.Core.List.{List}
 use mathlib.Core.Bool.{true, cond}
 use lib.Dec.{eqb}
-use Rattle.codes.specs.Tables.{woodOf, isKnown}
+use Rattle.codes.specs.Tables.{isClass}
 use Rattle.strength.specs.Working.{squareRootOf, capacityOf}
 use Rattle.strength.specs.Shear.{PlaneWithin}
 use Rattle.spacing.specs.declared.verdict.Fault.{Fault}
@@ -143,7 +143,7 @@ reportOf s = cond (eqb (refusalOf s .number) 0) (answered (valuesOf s)) (unanswe
 
 -- ---- what the values of an accepted record are known to be, when their figures are worked out
 pub record MemberHolds (m : Member) : Type 0 where
-  pub class : isKnown (woodOf (m .class)) ≡ true
+  pub class : isClass (m .class) ≡ true
   pub thickness-low : 200 ≤ m .thickness
   pub thickness-high : m .thickness ≤ 4000
 

@@ -1,4 +1,4 @@
--- The starred joints of 01, 'Joints to try': the bytes of each, and what 01 prints of it.
+-- The starred joints of 01, 'Joints to try', with what 01 prints of each, and two of oak (02, A1), with what its formulas give.
 use Prim.Native.Nat.{ℕ, _≤_}
 use mathlib.Core.Path.{_≡_}
 use mathlib.Core.List.{List, [], _∷_, _++_}
@@ -54,7 +54,7 @@ pairPositions low high = 3 ∷ 2 ∷ 0 ∷ 0 ∷ 0 ∷ 0 ∷ 0 ∷ 0 ∷ 0 ∷ 0
 abbrev pub pairLoads : List ℕ
 pairLoads = 4 ∷ 1 ∷ 3 ∷ 184 ∷ 11 ∷ 0 ∷ 0 ∷ 160 ∷ 15 ∷ 0 ∷ 0 ∷ []
 
--- what 01 prints: no refusal; a refusal with its place; or the verdict, with U, C and E from the first to the second of each pair
+-- what is printed: no refusal; a refusal with its place; or the verdict, with U, C and E from the first to the second of each pair
 pub data Prints : Type 0 where
   noRefusal : Prints
   refused : ℕ → ℕ → ℕ → ℕ → Prints
@@ -92,7 +92,7 @@ pub record LoneAs (uLow uHigh eLow eHigh : ℕ) (r : Report) : Type 0 where
   pub usage : Within uLow uHigh (r .usage)
   pub share : Within eLow eHigh (r .share)
 
--- a report says what is printed
+-- a report says so
 abbrev pub SaysSo : Prints → Report → Type 0
 SaysSo noRefusal r = PassesAs r
 SaysSo (refused n m i j) r = RefusedAs n m i j r
@@ -105,7 +105,7 @@ pub record Starred : Type 0 where
   pub bytes : List ℕ
   pub prints : Prints
 
--- 01's stars, in its order, and one for 02's A1
+-- 01's stars, in its order; then those of oak
 abbrev pub starred : List Starred
 starred =
     -- B
@@ -130,16 +130,18 @@ starred =
     -- force (3,000, 4,000), d 12, grain x, across 0: along 504 passes the pair rule, 503 doesn't
     ∷ record { bytes = recordOf pairHeader membersB dowelB (pairPositions 248 1) pairLoads; prints = noRefusal }
     ∷ record { bytes = recordOf pairHeader membersB dowelB (pairPositions 247 1) pairLoads; prints = refused 10 1 1 2 }
-    -- B with only dowel 1, D30 in both members, force (0, 3,000): across the grain, where k90 counts; with softwood's C is 7,401 or 7,402
+    -- B with only dowel 1, D30 in both members, force (0, 3,000): across the grain k90 counts; with softwood's C were 7,401 or 7,402
     ∷ record {
       bytes =
           recordOf loneHeader (set (set membersB 2 9) 22 9) dowelB lonePositions
           (set (set (set (set loadsB 3 0) 4 0) 7 184) 8 11);
       prints = fitsWith 5533 5562 8810 8811 9999 10000;
     }
+    -- B with only dowel 1, D30 between sides of C24, force (3,000, 4,000); with the k90 or density of either in both members C were another
+    ∷ record { bytes = recordOf loneHeader (set membersB 22 9) dowelB lonePositions pairLoads; prints = overloadedWith 6081 6082 }
     ∷ []
 
--- every report for which the claim holds on a starred joint's bytes says what 01 prints of it
+-- every report for which the claim holds on a starred joint's bytes says what stands beside it
 abbrev pub AllHold : List Starred → Type 0
 AllHold [] = Unit {0}
 AllHold (s ∷ ss) = ((r : Report) → Judged (s .bytes) r → SaysSo (s .prints) r) × AllHold ss

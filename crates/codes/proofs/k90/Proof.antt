@@ -1,6 +1,5 @@
 -- k90 is that of the kind, for thin dowels too.
-use mathlib.Core.Path.{ap, sym, _∙_}
-use Prim.Native.Nat.{ℕ}
+use mathlib.Core.Path.{ap}
 use native.Mathlib.Omega.{arith}
 use borrow.Author.Needs.{needs}
 use Rattle.codes.specs.declared.Kind.{Kind}
