@@ -1,18 +1,18 @@
 -- Laws of chains: one step of the loop, and what a right chain says of its parts.
 use Prim.Native.Nat.{ℕ, zero, suc, _+_, _*_, _≤_, _<_}
-use native.Mathlib.Nat.{mul-le-mul-right, le-refl, le-of-lt, pos-of-ne-zero}
+use native.Mathlib.Nat.{mul-le-mul-right, le-refl, pos-of-ne-zero}
 use native.Mathlib.Decide.{le-ind}
 use native.Mathlib.Numerals.{add-one}
 use native.Mathlib.Omega.{arith}
-use mathlib.Core.Bool.{Bool, true, not, _&&_, and-eq-true-iff}
+use mathlib.Core.Bool.{Bool, true, false, not, _&&_, and-true, and-false, and-eq-true-iff}
 use mathlib.Core.Path.{_≡_, refl, ap, _∙_}
 use mathlib.Core.List.{List}
 use lib.Dec.{eqb}
 use lib.ListN.{length, getD, set, length-set}
 use lib.Seq.{getD-set-same, getD-set-other}
-use borrow.Author.Tests.{eqb-true, eqb-false, not-true}
+use borrow.Author.Tests.{eqb-true, eqb-false, eq-eqb, ne-eqb, not-true}
 use Rattle.chain.specs.declared.Width.{Width}
-use Rattle.chain.specs.Chain.{bytesOf, pairBytes, numberAt, offsetOf, lengthOf, bound, follows, allFollow, chained, filled, Read}
+use Rattle.chain.specs.Chain.{bytesOf, pairBytes, numberAt, offsetOf, lengthOf, bound, allFollow, chained, filled, Read}
 
 -- pair k of n that lie within l bytes lies within them
 pub room : (at k n p l : ℕ) → k < n → at + n * p ≤ l → at + k * p + p ≤ l
@@ -39,20 +39,26 @@ module _ {w : Width} {s : List ℕ} {at first : ℕ} {before : List ℕ} where
     pub long : length after ≡ length before
     long = ap length (h .bounds) ∙ filled-length (bound w s at first) k before
 
-    pub more : {size offset bytes : ℕ} → size ≡ bytesOf w → offset ≡ numberAt w s here → bytes ≡ numberAt w s (here + size)
-        → Upto w s at first before (k + 1) (set after k start) (whole && (eqb offset start && not (eqb bytes 0))) (offset + bytes)
-        (here + 2 * size)
+    -- a pair more: its numbers and its test, and what is put into the list and counted on
+    pub more : {size offset bytes put next there : ℕ} {right : Bool} → size ≡ bytesOf w → offset ≡ numberAt w s here
+        → bytes ≡ numberAt w s (here + size) → right ≡ (eqb offset start && not (eqb bytes 0)) → put ≡ start → next ≡ offset + bytes
+        → there ≡ here + 2 * size → Upto w s at first before (k + 1) (set after k put) (whole && right) next there
     unfolding bound allFollow filled
-    more e f g = record {
+    more e f g r p n t = record {
       place = omega (arith, h .place);
       next = rw add-one (cc);
       right = rw add-one (cc);
       bounds = rw add-one (cc);
     }
 
-    pub all : {n : ℕ} → k ≡ n → Read w s at first n before (set after n start) (whole && eqb start (length s))
+    -- the end is met, or not
+    pub all : {n put : ℕ} → k ≡ n → put ≡ start → start ≡ length s → Read w s at first n before (set after n put) whole
     unfolding chained filled
-    all e = record { whole = cc; bounds = cc }
+    all e p q = let t = eq-eqb start (length s) q in let a = and-true whole in record { whole = cc; bounds = cc }
+
+    pub other-end : {n put : ℕ} → k ≡ n → put ≡ start → (start ≡ length s → ⊥) → Read w s at first n before (set after n put) false
+    unfolding chained filled
+    other-end e p q = let t = ne-eqb start (length s) q in let a = and-false whole in record { whole = cc; bounds = cc }
 
 -- ---- the numbers that were lent
 pub filled-at : (f : ℕ → ℕ) (l : List ℕ) (k n : ℕ) → k < n → k < length l → getD (filled f n l) k 0 ≡ f k

@@ -2,7 +2,9 @@
 use numbers::u16_at;
 use numbers::u32_at;
 ghost use mathlib.Core.Path.{_≡_};
+ghost use mathlib.Core.Bool.{not, _&&_};
 ghost use Prim.Native.Nat.{_+_, _*_, _≤_, _<_};
+ghost use lib.Dec.{eqb};
 ghost use lib.ListN.{length};
 ghost use Rattle.chain.specs.Chain.{bytesOf, pairBytes, numberAt, Read};
 
@@ -31,6 +33,19 @@ fn number_at(s: &[u8], width: Width, i: usize) -> u32
     }
 }
 
+// Whether a pair's part starts where it has to and is not empty.
+fn follows(offset: usize, bytes: usize, start: usize) -> bool
+    ensures { λ r. ⌜ r ≡ (eqb offset start && not (eqb bytes 0)) ⌝ }
+{
+    if offset != start {
+        return false;
+    }
+    if bytes == 0 {
+        return false;
+    }
+    true
+}
+
 // Whether `count` pairs, from byte `at` on, lay parts end to end from byte `first` to the end of `s`. Puts into `bounds` where each part
 // starts, and after that where the last one ends, by the pairs as they stand.
 pub fn read(
@@ -52,13 +67,15 @@ pub fn read(
     while k < count {
         let offset = number_at(s, width, here) as usize;
         let bytes = number_at(s, width, here + size) as usize;
-        let follows = (offset == start) & (bytes != 0);
-        whole = whole & follows;
+        whole = whole & follows(offset, bytes, start);
         bounds[k] = start;
         start = offset + bytes;
         here += 2 * size;
         k += 1;
     }
     bounds[count] = start;
-    whole & (start == s.len())
+    if start != s.len() {
+        return false;
+    }
+    whole
 }

@@ -1,4 +1,5 @@
 // One joint record from a file descriptor, answered by one line on standard output (01, 'Printing').
+use joint::refusals::PAIRS_AGAINST_RULE;
 use joint::report::Report;
 use joint::report::Verdict;
 use libc::STDOUT_FILENO;
@@ -72,7 +73,7 @@ pub fn judge_input(buffer: &[u8], count: usize, more: bool) -> Report
     ensures { λ r. ⌜ InputReported (now (buffer .entry)) count more r ⌝ }
 {
     if more {
-        return without_figures(4);
+        return without_figures(PAIRS_AGAINST_RULE);
     }
     if count < buffer.len() {
         return joint::judge(&buffer[..count]);

@@ -3,14 +3,14 @@ use mathlib.Core.Path.{_≡_, refl, sym, ap, ap₂, _∙_}
 use mathlib.Core.Bool.{true, false, true≢false}
 use mathlib.Core.List.{List}
 use Prim.Native.Nat.{ℕ, zero, suc, _+_, _*_, _^_, _≤_, _<_}
-use native.Mathlib.Nat.{mul-le-mul-left, mul-le-mul-right, le-refl, le-of-eq, le-trans, lt-of-not-le, pow-suc, pow-zero, le-of-mul-le-mul-left}
+use native.Mathlib.Nat.{mul-le-mul-left, mul-le-mul-right, le-refl, le-of-eq, le-trans, lt-of-not-le, le-of-mul-le-mul-left}
 use native.Mathlib.Nat.{one-le-pow}
 use native.Mathlib.Decide.{decLt}
 use native.Mathlib.Omega.{arith}
 use borrow.Author.Tests.{le-leb, leb-true}
 use lib.Pow.{pow-add}
 use lib.IntN.{ℤ}
-use Rattle.wide.proofs.Powers.{mul-pow, fifth-is}
+use Rattle.wide.proofs.Powers.{mul-pow, fifth-is, square-is}
 use Rattle.group.specs.Rows.{sameRow, rowNumber, IsRow, NotAbove, shareOver, SomeRowAbove, MemberBracket, RowsGiven}
 use Rattle.group.specs.Share.{units, rowPasses, dowelsPass, memberShare, nearest}
 use Rattle.group.proofs.Counting.{count-bound}
@@ -21,12 +21,9 @@ use Rattle.group.proofs.RowLaws.{own-row, row-some, number-same, Near, 
 powers : (e n D : ℕ) → (e * n) ^ 20 * D * 1 ≡ n ^ 18 * ((e ^ 4) ^ 5 * (D * (n * n)))
 powers e n D =
     let p : (e * n) ^ 20 ≡ (e ^ 4) ^ 5 * (n ^ 18 * (n * n)) =
-    mul-pow e n 20 ∙ ap₂ _*_ (sym (twenty e)) (pow-add n 18 2 ∙ ap (λ z. n ^ 18 * z) (two n)) in
+    mul-pow e n 20 ∙ ap₂ _*_ (sym (twenty e)) (pow-add n 18 2 ∙ ap (λ z. n ^ 18 * z) (square-is n)) in
     rw p (omega arith)
   where
-    two : (n : ℕ) → n ^ 2 ≡ n * n
-    two n = rw (pow-suc n 1, pow-suc n 0, pow-zero n) (omega arith)
-
     twenty : (e : ℕ) → (e ^ 4) ^ 5 ≡ e ^ 20
     twenty e = rw (← (fifth-is (e ^ 4)), pow-add e 16 4, pow-add e 8 8, pow-add e 4 4)
 

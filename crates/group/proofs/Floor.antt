@@ -1,6 +1,6 @@
 -- Where no two dowels of a member are too close, its share is at least 4,000 ten-thousandths.
 use mathlib.Core.Path.{_≡_, refl, sym, _∙_}
-use mathlib.Core.Bool.{Bool, true, false, _||_, false≢true}
+use mathlib.Core.Bool.{Bool, true, false, _||_, false≢true, and-eq-true-iff}
 use mathlib.Core.List.{List}
 use Prim.Native.Nat.{ℕ, _*_, _^_, _≤_, _<_}
 use native.Mathlib.Nat.{mul-le-mul, mul-le-mul-left, mul-le-mul-right, le-trans, pow-le-pow-left, lt-of-not-le, le-of-eq}
@@ -17,7 +17,7 @@ use Rattle.spacing.proofs.Integers.{distance-turned}
 use Rattle.group.specs.Rows.{sameRow, rowNumber}
 use Rattle.group.specs.Share.{units, rowPasses, memberShare, mate, nearest}
 use Rattle.group.proofs.Counting.{count-bound, least-from}
-use Rattle.group.proofs.Shares.{all-true, both-true, greatest-from}
+use Rattle.group.proofs.Shares.{all-true, greatest-from}
 use Rattle.group.proofs.RowLaws.{mate-of}
 
 -- ---- two dowels of a row that are not too close
@@ -27,7 +27,7 @@ alone false h = absurd (false≢true h)
 
 along-from : (d part total x : ℕ) → alongEnough d part total x ≡ true → 30 * d ≤ x
 unfolding alongEnough
-along-from d part total x h = leb-true (30 * d) x (both-true (leb (30 * d) x) _ h .0)
+along-from d part total x h = leb-true (30 * d) x (and-eq-true-iff (leb (30 * d) x) _ .0 h .0)
 
 pair-from :
     (v : Frame) (d x y : ℕ) → 1 ≤ d → y ≡ 0 → pairPasses v d x y ≡ true → 30 * d ≤ x

@@ -1,6 +1,6 @@
 -- Laws of rows: a row is that of each of its dowels, and where it has several it has one least distance.
 use mathlib.Core.Path.{_≡_, refl, sym, ap, _∙_, fun-ext}
-use mathlib.Core.Bool.{true, not, true≢false}
+use mathlib.Core.Bool.{true, not, true≢false, and-eq-true-iff}
 use mathlib.Core.List.{List}
 use Prim.Native.Nat.{ℕ, _≤_, _<_}
 use native.Mathlib.Nat.{le-trans, lt-of-not-le}
@@ -16,7 +16,6 @@ use Rattle.group.specs.Rows.{sameRow, countTo, rowNumber, LeastDistance}
 use Rattle.group.specs.declared.member.Taken.{Taken}
 use Rattle.group.specs.Share.{leastTo, mate, nearest, TakenFrom}
 use Rattle.group.proofs.Counting.{Another, another, count-some, count-two, least-below, least-attained}
-use Rattle.group.proofs.Shares.{both-true}
 
 pub own-row : (b : List ℤ) (i : ℕ) → sameRow b i i ≡ true
 own-row b i = rw (no-distance (place b i))
@@ -46,7 +45,7 @@ pub record Mate (b : List ℤ) (i j : ℕ) : Type 0 where
 
 pub mate-of : (b : List ℤ) (i j : ℕ) → mate b i j ≡ true → Mate b i j
 mate-of b i j h =
-    let p = both-true (sameRow b i j) (not (eqb i j)) h in
+    let p = and-eq-true-iff (sameRow b i j) (not (eqb i j)) .0 h in
     record { same = p .0; differ = mate-differs i j (p .1) }
 
 -- a member takes what another with the same grain takes

@@ -1,6 +1,6 @@
 -- Laws of the share: which shares a row passes, and the greatest of them.
 use mathlib.Core.Path.{_≡_, refl, sym, ap, _∙_}
-use mathlib.Core.Bool.{Bool, true, false, cond, _&&_, true≢false, false≢true}
+use mathlib.Core.Bool.{Bool, true, false, cond, _&&_, true≢false, and-eq-true-iff}
 use Prim.Native.Nat.{ℕ, zero, suc, _+_, _*_, _^_, _≤_, _<_}
 use native.Mathlib.Nat.{mul-le-mul, mul-le-mul-left, mul-le-mul-right, le-trans, lt-of-lt-of-le, le-of-lt, lt-of-not-le, pow-le-pow-left, pow-suc}
 use native.Mathlib.Nat.{pow-zero, le-refl, le-of-mul-le-mul-right, mul-pos, mul-comm}
@@ -99,15 +99,11 @@ pub all-on : (test : ℕ → Bool) (k : ℕ) → allTo test (k + 1) ≡ test k &
 unfolding allTo
 all-on test k = ap (allTo test) (add-one k)
 
-pub both-true : (s t : Bool) → s && t ≡ true → (s ≡ true) × (t ≡ true)
-both-true true t h = (refl, h)
-both-true false t h = absurd (false≢true h)
-
 pub all-at : (test : ℕ → Bool) (k : ℕ) → allTo test k ≡ true → (i : ℕ) → i < k → test i ≡ true
 unfolding allTo
 all-at test zero h i l = absurd (omega arith)
 all-at test (suc k) h i l =
-    let p = both-true (test k) (allTo test k) h in go (decLt i k) (p .0) (all-at test k (p .1))
+    let p = and-eq-true-iff (test k) (allTo test k) .0 h in go (decLt i k) (p .0) (all-at test k (p .1))
   where
     go : Dec (i < k) → test k ≡ true → ((j : ℕ) → j < k → test j ≡ true) → test i ≡ true
     go (yes q) t r = r i q

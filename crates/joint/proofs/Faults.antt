@@ -3,7 +3,7 @@ use Prim.Native.Nat.{ℕ, zero, suc, _+_, _≤_, _<_, suc-le-suc}
 use native.Mathlib.Omega.{arith}
 use mathlib.Core.Path.{_≡_, refl, sym, ap, _∙_}
 use mathlib.Core.List.{List, [], _∷_, _++_, map}
-use mathlib.Core.Bool.{Bool, true, false, cond, not, _&&_}
+use mathlib.Core.Bool.{Bool, true, false, cond, not, _&&_, and-eq-true-iff}
 use borrow.Author.Tests.{leb-true, eqb-true, eqb-false, not-false, ne-eqb}
 use lib.Dec.{leb, ltb, eqb}
 use lib.IntN.{ℤ, pos, negsuc, natAbs}
@@ -27,13 +27,12 @@ use Rattle.joint.specs.declared.layout.Layout.the-variants.{Laid, Refuse
 use Rattle.joint.proofs.Accepted.{fields-hold}
 use Rattle.joint.proofs.Holding.{none-holds, first-zero, first-kept}
 use Rattle.joint.proofs.Stages.{layout-number, laid-number, layout-refused, stage-number, stage-passed, stage-refused}
-use Rattle.joint.proofs.Tests.{first-of, second-of}
 
 -- ---- what 7 and 9 leave
 small-force : (z : ℤ) → force z ≡ true → natAbs z ≤ 1000000
 unfolding force
 small-force (pos n) h = leb-true n 1000000 h
-small-force (negsuc n) h = suc-le-suc (leb-true n 999999 (first-of (leb n 999999) true h))
+small-force (negsuc n) h = suc-le-suc (leb-true n 999999 (and-eq-true-iff (leb n 999999) true .0 h .0))
 
 some-force : (a b : ℕ) → (eqb a 0 && eqb b 0) ≡ false → 0 < a + b
 some-force zero zero h = let z : _≡_ {A = ℕ} 0 1 = cc in absurd (omega arith)
@@ -44,10 +43,10 @@ pub given : (v : Values) → not (fieldsWithin v) ≡ false → noForce (v .load
     → Given (v .dowel .diameter) (v .loads .fx) (v .loads .fy) (v .positions .n)
 unfolding fieldsWithin loadsWithin noForce
 given v h g =
-    let t = not-false (fieldsWithin v) h in
+    let p = simp and-eq-true-iff at (not-false (fieldsWithin v) h) in
     let f = fields-hold v h in
     let s = some-force (natAbs (v .loads .fx)) (natAbs (v .loads .fy)) g in
-    search (small-force, first-of, second-of)
+    search small-force
 
 pub drill-given : {r : Stage} (v : Values) → r ≡ stage (firstHolding 7 (valueTests v)) → r ≡ Passed
     → Given (v .dowel .diameter) (v .loads .fx) (v .loads .fy) (v .positions .n)

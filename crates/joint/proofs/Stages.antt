@@ -11,7 +11,7 @@ use lib.ListN.{length, getD, take, drop, replicate, length-drop}
 use lib.Seq.{length-take-le, getD-take, getD-drop}
 use mir.Syntax.{w32}
 use mir.Val.{SFits, ofZ}
-use borrow.Author.Tests.{lt-ltb, le-ltb, eq-eqb, ne-eqb, eqb-true, not-true, not-false}
+use borrow.Author.Tests.{lt-ltb, le-ltb, eq-eqb, ne-eqb, eqb-true, not-false}
 use Rattle.numbers.specs.Numbers.{u8At, u16At}
 use Rattle.chain.specs.declared.Width.the-variants.{Two}
 use Rattle.chain.specs.Chain.{numberAt, offsetOf, lengthOf, bound, chained, Read}

@@ -1,6 +1,6 @@
 -- A call's flag that a branch went by: what the call ensures of the flag, and which way the branch went.
 use mathlib.Core.Path.{_≡_, refl, sym, _∙_}
-use mathlib.Core.Bool.{Bool, true, false, not, _&&_}
+use mathlib.Core.Bool.{Bool, true, false, not}
 use Prim.Native.Nat.{ℕ, _<_}
 use borrow.Author.Tests.{not-true, not-false, eq-eqb, ne-eqb}
 use native.Mathlib.Omega.{arith}
@@ -34,12 +34,3 @@ equal e h = eq-eqb _ _ (sym e ∙ h)
 
 pub unequal : {r t n : ℕ} → r ≡ t → (r ≡ n → ⊥) → eqb t n ≡ false
 unequal e h = ne-eqb _ _ (λ q. h (e ∙ q))
-
--- both parts of a conjunction that holds
-pub first-of : (a b : Bool) → (a && b) ≡ true → a ≡ true
-first-of true b h = refl
-first-of false b h = h
-
-pub second-of : (a b : Bool) → (a && b) ≡ true → b ≡ true
-second-of true b h = h
-second-of false b h = cc

@@ -1,7 +1,7 @@
 -- The plane and the use of an accepted record lie within the ranges of the capacity and of the use.
 use Prim.Native.Nat.{ℕ, zero, suc, _+_, _*_, _%_, _≤_, _<_}
 use mathlib.Core.Path.{_≡_, refl}
-use mathlib.Core.Bool.{Bool, true, false, cond, _&&_}
+use mathlib.Core.Bool.{Bool, true, false, cond, _&&_, and-eq-true-iff}
 use native.Mathlib.Omega.{arith}
 use native.Mathlib.Nat.{mul-le-mul, mul-pos}
 use borrow.Author.Tests.{eqb-true}
@@ -12,7 +12,7 @@ use Rattle.codes.proofs.Woods.{density-within, k90-low, k90-high}
 use Rattle.strength.specs.Shear.{MemberWithin, PlaneWithin}
 use Rattle.spacing.specs.Spacing.{squaredForce, Components}
 use Rattle.group.specs.Share.{allTo}
-use Rattle.group.proofs.Shares.{all-at, both-true}
+use Rattle.group.proofs.Shares.{all-at}
 use Rattle.joint.specs.declared.Member.{Member}
 use Rattle.joint.specs.declared.Values.{Values}
 use Rattle.joint.specs.Refusal.{between}
@@ -111,7 +111,7 @@ module _ (v : Values) (f : FieldsHold v) (g : Components (v .dowel .diameter) (v
   kmod-parts : (between 50 110 (kmodIn (v .loads)) ≡ true) × (eqb (kmodIn (v .loads) % 5) 0 ≡ true)
   unfolding kmodTest
   kmod-parts =
-      both-true _ _
+      and-eq-true-iff _ _ .0
       (kmod-tested (v .loads .«service_class») (v .loads .duration) (f .service-low) (f .service-high) (f .duration-low) (f .duration-high))
 
   pub check-within :

@@ -1,4 +1,10 @@
 // The record's header, pairs, kinds and lengths: refusals 1 to 6.
+use crate::refusals::KINDS_NOT_ONCE;
+use crate::refusals::OTHER_PAIR_COUNT;
+use crate::refusals::OTHER_VERSION;
+use crate::refusals::PAIRS_AGAINST_RULE;
+use crate::refusals::TOO_FEW_BYTES;
+use crate::refusals::WRONG_LENGTH;
 use chain::Width;
 use numbers::u16_at;
 ghost use mathlib.Core.Path.{_≡_};
@@ -117,14 +123,14 @@ fn find_parts(bytes: &[u8], bounds: &[usize; PAIRS + 1]) -> Layout
     let positions = find_part(bytes, bounds, POSITIONS);
     let loads = find_part(bytes, bounds, LOADS);
     if (members.bytes == 0) | (dowel.bytes == 0) | (positions.bytes == 0) | (loads.bytes == 0) {
-        return Layout::Refused(5);
+        return Layout::Refused(KINDS_NOT_ONCE);
     }
     let sized = (members.bytes == MEMBERS_BYTES)
         & (dowel.bytes == DOWEL_BYTES)
         & positions_length(stretch(bytes, positions))
         & (loads.bytes == LOADS_BYTES);
     if !sized {
-        return Layout::Refused(6);
+        return Layout::Refused(WRONG_LENGTH);
     }
     Layout::Laid(Parts {
         members,
@@ -139,15 +145,15 @@ pub(crate) fn read_layout(bytes: &[u8]) -> Layout
     ensures { λ r. ⌜ r ≡ layout (firstHolding 1 (scriptTests (now (bytes .entry)))) (partsOf (now (bytes .entry))) ⌝ }
 {
     if bytes.len() < HEADER_BYTES {
-        return Layout::Refused(1);
+        return Layout::Refused(TOO_FEW_BYTES);
     }
     let version = u16_at(bytes, VERSION_AT);
     if version != VERSION {
-        return Layout::Refused(2);
+        return Layout::Refused(OTHER_VERSION);
     }
     let count = u16_at(bytes, COUNT_AT) as usize;
     if count != PAIRS {
-        return Layout::Refused(3);
+        return Layout::Refused(OTHER_PAIR_COUNT);
     }
     let mut bounds = [0usize; PAIRS + 1];
     if !chain::read(
@@ -158,7 +164,7 @@ pub(crate) fn read_layout(bytes: &[u8]) -> Layout
         PAIRS,
         &mut bounds,
     ) {
-        return Layout::Refused(4);
+        return Layout::Refused(PAIRS_AGAINST_RULE);
     }
     find_parts(bytes, &bounds)
 }

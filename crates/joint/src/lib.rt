@@ -11,6 +11,7 @@ mod figures;
 mod layout;
 mod limits;
 mod parts;
+pub mod refusals;
 pub mod report;
 
 use crate::layout::Layout;

@@ -6,6 +6,9 @@ use crate::Outline;
 use crate::Positions;
 use crate::Stage;
 use crate::Values;
+use crate::refusals::EMPTY_OUTLINE;
+use crate::refusals::FIELD_OUTSIDE;
+use crate::refusals::NO_FORCE;
 use codes::is_class;
 use numbers::is_coordinate;
 use numbers::is_force;
@@ -117,13 +120,13 @@ pub(crate) fn check_values(v: Values) -> Stage
         & positions_within(v.positions)
         & loads_within(loads);
     if !within {
-        return Stage::Refused(7);
+        return Stage::Refused(FIELD_OUTSIDE);
     }
     if outline_empty(members.member1.outline) | outline_empty(members.member2.outline) {
-        return Stage::Refused(8);
+        return Stage::Refused(EMPTY_OUTLINE);
     }
     if (loads.fx == 0) & (loads.fy == 0) {
-        return Stage::Refused(9);
+        return Stage::Refused(NO_FORCE);
     }
     Stage::Passed
 }

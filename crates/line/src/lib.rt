@@ -5,7 +5,7 @@ ghost use Prim.Native.Nat.{_+_, _≤_};
 ghost use mathlib.Core.Path.{_≡_};
 ghost use mathlib.Core.List.{_++_};
 ghost use lib.ListN.{length};
-ghost use Rattle.line.specs.Line.{fieldOf, figuresAfter, placeAfter, lineOf, Added, Lined};
+ghost use Rattle.line.specs.Line.{fieldOf, figuresAfter, placeAfter, Added, Lined};
 
 // The bytes of the longest line: `refused`, four numbers of up to 20 digits with a space before each, and the newline.
 pub const LONGEST: usize = 92;

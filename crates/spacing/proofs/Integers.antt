@@ -1,5 +1,5 @@
 -- Differences of signed numbers: how large they are, and how they are read.
-use mathlib.Core.Path.{_≡_, refl, sym, ap, ap₂, _∙_}
+use mathlib.Core.Path.{_≡_, refl, sym, ap, _∙_}
 use mathlib.Core.Bool.{Bool, true, false, cond, true≢false, false≢true}
 use Prim.Native.Nat.{ℕ, zero, suc, _+_, _-_, _≤_}
 use native.Mathlib.Nat.{lt-trans}
@@ -79,10 +79,6 @@ neg-not-negative (negsuc n) h = tt
 
 pub turned-not-negative : (a b : ℤ) → leZ (pos 0) (a -ℤ b) ≡ false → T (nonNeg (b -ℤ a))
 turned-not-negative a b h = rw (turned a b) (neg-not-negative (a -ℤ b) h)
-
--- the same distance reaches as far
-pub reaches-same : (b : Bool) (k k′ : ℕ) (z z′ : ℤ) → b ≡ leZ (pos k) z → k ≡ k′ → z ≡ z′ → b ≡ leZ (pos k′) z′
-reaches-same b k k′ z z′ h p q = h ∙ ap₂ (λ i j. leZ (pos i) j) p q
 
 -- a distance that is not negative is compared by its size; a negative one reaches nothing
 pub reaches-not-negative : (k : ℕ) (z : ℤ) → leZ (pos 0) z ≡ true → leb k (natAbs z) ≡ leZ (pos k) z

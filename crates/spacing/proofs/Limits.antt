@@ -9,18 +9,10 @@ use borrow.Author.Tests.{le-leb, lt-leb, le-ltb, lt-ltb, leb-true}
 use lib.Dec.{leb, ltb, leb·zero}
 use lib.IntN.{ℤ, pos, negsuc, natAbs, _-ℤ_}
 use lib.Signed.{leZ}
+use Rattle.wide.proofs.Tests.{same-test}
 use Rattle.strength.specs.Roots.{SquareRoot}
 use Rattle.spacing.specs.Spacing.{alongEnough, endPasses, square, Components}
 use Rattle.spacing.specs.Limits.{Scale, LeastPart, PairLimit, EndLimit, nearerBy, nearLimit}
-
-leb-same-by : (a b c d : ℕ) → Dec (a ≤ b) → (a ≤ b → c ≤ d) → (c ≤ d → a ≤ b) → leb a b ≡ leb c d
-leb-same-by a b c d (yes p) f g = le-leb a b p ∙ sym (le-leb c d (f p))
-leb-same-by a b c d (no p) f g =
-    lt-leb a b (lt-of-not-le p) ∙ sym (lt-leb c d (lt-of-not-le (λ (q : c ≤ d). p (g q))))
-
--- two comparisons that imply each other are one
-pub leb-same : (a b c d : ℕ) → (a ≤ b → c ≤ d) → (c ≤ d → a ≤ b) → leb a b ≡ leb c d
-leb-same a b c d f g = leb-same-by a b c d (decLe a b) f g
 
 module _ (w total q r : ℕ) (force : 0 < total) (root : SquareRoot q r) (low : q * total ≤ w) (high : w < (q + 1) * total) where
   passes : (e : ℕ) → r + 1 ≤ e → suc w ≤ e * e * total
@@ -35,7 +27,7 @@ module _ (w total q r : ℕ) (force : 0 < total) (root : SquareRoot q r) (low : 
   reached e h = omega (arith, lt-of-not-le (λ (k : e ≤ r). not-le-of-lt h (fails e k)))
 
   root-decides : (e : ℕ) → leb (suc w) (e * e * total) ≡ leb (r + 1) e
-  root-decides e = leb-same _ _ _ _ (reached e) (passes e)
+  root-decides e = same-test (reached e) (passes e)
 
 -- the whole root of (whole - 1)/total, and 1 more, is the least e with whole ≤ e² total
 pub rounded-up :
@@ -86,14 +78,14 @@ both : (A r a : ℕ) → leb A a && leb r (a - A) ≡ leb (A + r) a
 both A r a = go (decLe A a)
   where
     go : Dec (A ≤ a) → leb A a && leb r (a - A) ≡ leb (A + r) a
-    go (yes p) = rw (le-leb A a p) (leb-same r (a - A) (A + r) a (λ h. omega arith) (λ h. omega arith))
+    go (yes p) = rw (le-leb A a p) (same-test (λ (h : r ≤ a - A). omega arith) (λ (h : A + r ≤ a). omega arith))
     go (no p) = rw (lt-leb A a (lt-of-not-le p)) (sym (lt-leb (A + r) a (omega (arith, lt-of-not-le p))))
 
 greatest : (A B n : ℕ) → leb A n && leb B n ≡ leb (max A B) n
 greatest A B n = go (decLe A n)
   where
     go : Dec (A ≤ n) → leb A n && leb B n ≡ leb (max A B) n
-    go (yes p) = rw (le-leb A n p) (leb-same B n (max A B) n (λ h. omega arith) (λ h. omega arith))
+    go (yes p) = rw (le-leb A n p) (same-test (λ (h : B ≤ n). omega arith) (λ (h : max A B ≤ n). omega arith))
     go (no p) = rw (lt-leb A n (lt-of-not-le p)) (sym (lt-leb (max A B) n (omega (arith, lt-of-not-le p))))
 
 pub pair-limit : (d part total r : ℕ) → LeastPart (20 * d) part total r → PairLimit d part total (30 * d + r)

@@ -22,6 +22,13 @@ use crate::view::Piece;
 use crate::view::Which;
 use crate::view::view_of;
 
+// The numbers of the refusals.
+const DOWELS_TOO_CLOSE: u8 = 10;
+
+const END_TOO_NEAR: u8 = 11;
+
+const EDGE_TOO_NEAR: u8 = 12;
+
 // A refusal 10, 11 or 12 with its place, dowels counted from 1; all 0 where the spacing passes.
 pub struct Fault {
     pub number: u8,
@@ -63,7 +70,7 @@ fn pair_fault(member: u8, v: Frame, d: u64, a: &[i32; 64], b: &[i32; 64], count:
     }
     let j = scan::partner(a, b, count, i, along, across);
     Fault {
-        number: 10,
+        number: DOWELS_TOO_CLOSE,
         member,
         first: (i + 1) as u8,
         second: (j + 1) as u8,
@@ -78,7 +85,7 @@ fn end_fault(member: u8, v: Frame, d: u64, a: &[i32; 64], count: usize) -> Fault
     let low = limit::from_end(signed::negative(v.force), d, v.force, v.sideways);
     let high = limit::from_end(signed::positive(v.force), d, v.force, v.sideways);
     let i = scan::first_outside(a, count, v.low, v.high, low, high);
-    one_dowel(11, member, i, count)
+    one_dowel(END_TOO_NEAR, member, i, count)
 }
 
 // Refusal 12: an edge too near.
@@ -87,7 +94,7 @@ fn edge_fault(member: u8, v: Frame, d: u64, b: &[i32; 64], count: usize) -> Faul
     ensures { λ r. ⌜ r ≡ edgeFault member v d (now (b .entry)) count ⌝ }
 {
     let i = scan::first_outside(b, count, v.left, v.right, APART * d, APART * d);
-    one_dowel(12, member, i, count)
+    one_dowel(EDGE_TOO_NEAR, member, i, count)
 }
 
 // A fault of dowel i, counted from 0, where there is one.

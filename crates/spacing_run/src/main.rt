@@ -3,7 +3,6 @@
 // y1 of member 1 and of member 2, then the number of dowels, and x y of each. Then the shares of the rows of 001's
 // Table 13-2, as 001 prints them.
 ghost use Prim.Native.Nat.{_+_, _*_, _≤_};
-ghost use lib.ListN.{length};
 ghost use Rattle.spacing.specs.Spacing.{Given};
 use group::share;
 use libc::STDIN_FILENO;

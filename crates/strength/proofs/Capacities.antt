@@ -427,7 +427,3 @@ module _ (p : Plane) (w : PlaneWithin p) where
   newtons-high l =
       capacity-high
       (falls p w (whole (capacityOf p / 1000 + 2)) ((capacityOf p + 2) over 1000) (lit< tt) (omega arith) l)
-
-  -- some fraction is above R
-  pub not-endless : (x : Fraction) × Proper x × AboveR p x
-  not-endless = ((capacityOf p + 2) over 1000, lit< tt, capacity-high)

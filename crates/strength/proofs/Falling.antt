@@ -1,4 +1,4 @@
--- Each test of 01 is monotone: what is at most R stays so when it gets smaller. 0 is at most R.
+-- Each test of 01 is monotone: what is at most R stays so when it gets smaller.
 use Prim.Native.Nat.{ℕ, _+_, _*_, _≤_}
 use native.Mathlib.Nat.{mul-pos, mul-le-mul-right, add-sub-of-le}
 use native.Mathlib.Omega.{arith}
@@ -84,17 +84,3 @@ module _ (p : Plane) (w : PlaneWithin p) (x y : Fraction) (px : Proper x) (h : y
     second = second-falls (l .second);
     third = third-falls (l .third);
   }
-
--- 0 is at most R
-pub zero-at-most : (p : Plane) → AtMostR p (whole 0)
-zero-at-most p = record { first = omega arith; second = wedge-zero _ _; third = go (eqb (p .planes) 1) }
-  where
-    K : Fraction
-    K = bearingForce (p .diameter) (p .member2)
-
-    wedge-zero : (K s : Fraction) → Wedge K s (whole 0)
-    wedge-zero K s = record { within = omega arith; square = omega arith }
-
-    go : (b : Bool) → oneOrTwo b (Wedge K (cSquared p) (whole 0)) (whole 0 ≼ K ⊘ whole 2)
-    go true = wedge-zero _ _
-    go false = omega arith

@@ -1,6 +1,6 @@
 -- Each test of 01, at c thousandths, as an inequality of whole numbers.
 use Prim.Native.Nat.{ℕ, _+_, _*_, _-_, _^_, _≤_, _<_}
-use native.Mathlib.Nat.{mul-pos, mul-le-mul-right, le-of-mul-le-mul-right, one-le-pow, add-sub-of-le, mul-assoc, pow-suc, pow-zero}
+use native.Mathlib.Nat.{mul-pos, mul-le-mul-right, le-of-mul-le-mul-right, one-le-pow, add-sub-of-le, mul-assoc}
 use native.Mathlib.Omega.{arith}
 use lib.Pow.{pow-add}
 use lib.Dec.{lit<}
@@ -8,7 +8,7 @@ use mathlib.Core.Path.{_≡_, _∙_, sym, ap, subst₂}
 use mathlib.Core.Logic.{_↔_}
 use Rattle.strength.specs.Fraction.{Fraction, _over_, whole, _⊖_, _⊗_, _⊘_, _↑_, _≼_, _≈_, Proper}
 use Rattle.strength.specs.Shear.{Wedge, AtMostYield}
-use Rattle.wide.proofs.Powers.{mul-pow}
+use Rattle.wide.proofs.Powers.{mul-pow, square-is}
 use Rattle.strength.proofs.Ratios.{≼-trans, ≈-le, ⊗-≈, ↑-≈, ↑-proper}
 use Rattle.strength.proofs.Estimates.{PlainWedge}
 
@@ -92,9 +92,6 @@ module _ (K K′ s s′ x : Fraction) (pK : Proper K) (ps : Proper s) (px : Prop
             (≈-le old new
             (⊗-≈ ((K ⊖ x) ↑ 2) ((K′ ⊖ x) ↑ 2) s s′ (↑-≈ (K ⊖ x) (K′ ⊖ x) 2 (less-≈ (w .within) w′)) es));
       }
-
-square-is : (x : ℕ) → x ^ 2 ≡ x * x
-square-is x = rw (pow-suc x 1, pow-suc x 0, pow-zero x) (omega arith)
 
 thousandths : (P D c : ℕ) → c * D ≤ P → P * 1000 - c * (1000 * D) ≡ (P - c * D) * 1000
 thousandths P D c w = omega arith

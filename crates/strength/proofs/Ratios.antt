@@ -2,7 +2,7 @@
 use Prim.Native.Nat.{ℕ, _*_, _^_, _<_}
 use native.Mathlib.Nat.{mul-le-mul-right, le-of-mul-le-mul-right, mul-pos, pow-le-pow-left, one-le-pow, eq-of-mul-eq-mul-right}
 use native.Mathlib.Omega.{arith}
-use mathlib.Core.Path.{sym, ap}
+use mathlib.Core.Path.{ap}
 use Rattle.strength.specs.Fraction.{Fraction, _⊕_, _⊗_, _⊘_, _↑_, _≼_, _≈_, Proper}
 use Rattle.wide.proofs.Powers.{mul-pow}
 
@@ -13,9 +13,6 @@ pub ≼-trans : (a b c : Fraction) → Proper b → a ≼ b → b ≼ c → a �
 
 pub ≈-le : (a b : Fraction) → a ≈ b → a ≼ b
 ≈-le a b e = omega arith
-
-pub ≈-sym : (a b : Fraction) → a ≈ b → b ≈ a
-≈-sym a b e = sym e
 
 pub ≈-trans : (a b c : Fraction) → Proper b → a ≈ b → b ≈ c → a ≈ c
 ≈-trans a b c pb h g =

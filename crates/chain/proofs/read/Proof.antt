@@ -1,12 +1,12 @@
 -- `Upto` holds of the pairs passed; the next pair lies within the bytes.
-use Prim.Native.Nat.{_+_, _-_, _≤_, _<_}
+use Prim.Native.Nat.{_+_, _-_, _≤_}
 use borrow.Author.Needs.{needs}
 use denote.Ref.{now}
 use lib.ListN.{length, length-set}
 use mathlib.Core.Path.{_≡_}
 use native.Mathlib.Omega.{arith}
 use Rattle.chain.specs.Chain.{pairBytes}
-use Rattle.chain.proofs.Laws.{room, Upto, none, long, more, all}
+use Rattle.chain.proofs.Laws.{room, Upto, none, long, more, all, other-end}
 use Rattle.chain.proofs.read.Statement.{statement}
 use Rattle.chain.proofs.read.Tie as tie
 
@@ -41,17 +41,26 @@ read-spec =
     (λ c. omega (arith, pair-within (c .before)))
     (λ c κs. omega (arith, pair-within (c .before)))
     (λ c. search needs)
+    (λ c κs. search needs)
     (λ c. omega arith)
-    (λ c. omega (arith, bound-within (c .before .before .before)))
+    (λ c. omega (arith, bound-within (c .before .before .before .before)))
     (λ c. search needs)
-    (λ c. omega (arith, pair-within (c .before .before)))
-    (λ c. omega (arith, pair-within (c .before .before)))
+    (λ c. omega (arith, pair-within (c .before .before .before)))
+    (λ c. omega (arith, pair-within (c .before .before .before)))
     (λ c. search needs)
     (λ c. search needs)
     (λ c.
-    let b = c .before .before .before in
-    (search needs, more (b .loop .inv .1) (b .before .bytes-of .ensures) (c .before .number-at .ensures) (c .number-at2 .ensures)))
+    let n = c .before in
+    let b = n .before .before .before in (
+      search needs,
+      more (b .loop .inv .1) (b .before .bytes-of .ensures) (n .before .number-at .ensures) (n .number-at2 .ensures) (c .follows .ensures)
+          (omega arith)
+          (omega arith)
+          (omega arith),
+    ))
     (λ c. omega arith)
     (λ c. omega (arith, bound-within (c .before)))
-    (λ c. simp length-set (bound-within (c .before)))
-    (λ c. all (c .before .loop .inv .1) (omega arith)))
+    (λ c. simp length-set (bound-within (c .before .before)))
+    (λ c. other-end (c .before .before .loop .inv .1) (omega arith) (omega arith) (λ e. omega (arith, c .if1 .taken)))
+    (λ c. simp length-set (bound-within (c .before .before)))
+    (λ c. all (c .before .before .loop .inv .1) (omega arith) (omega arith) (omega (arith, c .if1 .left))))

@@ -1,6 +1,6 @@
 -- e^4 has 64 bits.
 use denote.Ref.{now}
-use mathlib.Core.Path.{ap, _∙_}
+use mathlib.Core.Path.{_≡_, ap, _∙_}
 use Prim.Native.Nat.{_*_, _^_, _≤_}
 use lib.Dec.{leb}
 use native.Mathlib.Nat.{mul-le-mul}
@@ -14,8 +14,11 @@ use Rattle.group.proofs.share.passes.Tie as tie
 returns : tie.Need-returns
 returns c =
     let k : tie.Start = search in
-    c .fifth-power-at-most .ensures
-    ∙ ap (λ r. leb (r ^ 5 * value (now (k .args .q))) (value (now (k .args .n)))) (fourth (k .args .e))
+    let e = k .args .e in
+    let q = value (now (k .args .q)) in
+    let n = value (now (k .args .n)) in
+    let tested : c .fifth-power-at-most .result ≡ leb ((e * e * (e * e)) ^ 5 * q) n = c .fifth-power-at-most .ensures in
+    tested ∙ ap (λ r. leb (r ^ 5 * q) n) (fourth e)
 
 square-small : (k : tie.Start) → k .args .e * k .args .e ≤ 100000000
 square-small k = mul-le-mul (k .pre .0) (k .pre .0)

@@ -1,7 +1,6 @@
 -- The whole root is unique.
 use native.Mathlib.Omega.{arith}
 use borrow.Author.Needs.{needs}
-use native.Mathlib.Omega.{arith}
 use mathlib.Core.Path.{ap}
 use Prim.Native.Nat.{ℕ, _+_, _*_, _^_, _<_}
 use Rattle.strength.proofs.Greatest.{square-root-is}

@@ -1,5 +1,5 @@
 use borrow.Author.Needs.{needs}
-use mathlib.Core.Path.{_∙_, ap}
+use mathlib.Core.Path.{_≡_, _∙_, ap}
 use Rattle.joint.specs.Use.{verdictOf}
 use Rattle.joint.proofs.figures.report_of.Statement.{statement}
 use Rattle.joint.proofs.figures.report_of.Tie as tie
@@ -8,8 +8,9 @@ returns : tie.Need-returns
 returns c =
     let used : tie.After-use-ten-thousandths = search in
     let u = used .use-ten-thousandths .ensures in
+    let v : c .before .verdict-of .result ≡ verdictOf (used .use-ten-thousandths .result) = c .before .verdict-of .ensures in
     λ i. record {
-      verdict = (c .before .verdict-of .ensures ∙ ap verdictOf u) i;
+      verdict = (v ∙ ap verdictOf u) i;
       number = 0;
       member = 0;
       first = 0;

@@ -3,6 +3,8 @@ use native.Mathlib.Omega.{arith}
 use borrow.Author.Needs.{needs}
 use mathlib.Core.Path.{_≡_, ap, _∙_}
 use mir.Facts.{toZ-ofZ}
+use mir.Syntax.{w32}
+use mir.Val.{toZ, ofZ}
 use Rattle.spacing.specs.Spacing.{square, squaredForce}
 use Rattle.spacing.proofs.Limits.{squares, loaded-limit, other-limit}
 use Rattle.spacing.proofs.limit.from_end.Statement.{statement}
@@ -13,7 +15,10 @@ returns c = rw (c .before .if1 .taken, c .greater .ensures) (loaded-limit _ _ _)
 
 -- the squares are those of the force and of its component across
 part-is : (c : tie.After-square) → c .square .result ≡ square (c .before .before .before .args .sideways)
-part-is c = let k : tie.Start = search in c .square .ensures ∙ ap square (toZ-ofZ (k .fits .sideways))
+part-is c =
+    let k : tie.Start = search in
+    let e : c .square .result ≡ square (toZ w32 (ofZ w32 (k .args .sideways))) = c .square .ensures in
+    e ∙ ap square (toZ-ofZ (k .fits .sideways))
 
 total-is :
     (c : tie.After-squared-force) →

@@ -1,8 +1,12 @@
 -- The search by whole limits finds the end's fault.
 use borrow.Author.Needs.{needs}
+use denote.Ref.{now}
+use mathlib.Core.Path.{_≡_}
 use mir.Syntax.{w32}
-use mir.Val.{SFits}
+use mir.Val.{SFits, toZ, ofZ}
 use mir.Facts.{toZ-ofZ}
+use Rattle.spacing.specs.Search.{firstFrom}
+use Rattle.spacing.specs.Limits.{outside}
 use Rattle.spacing.proofs.Integers.{small-read}
 use Rattle.spacing.proofs.Faults.{end-found}
 use Rattle.spacing.proofs.verdict.end_fault.Statement.{statement}
@@ -24,8 +28,11 @@ returns c =
     let ends = fits k in
     let low = rw (f, g, rw f at (negative .negative .ensures)) at (below .from-end .ensures) in
     let high = rw (f, g, rw f at (positive .positive .ensures)) at (above .from-end2 .ensures) in
-    end-found (k .args .member) v (k .args .d) _ _ _ _ _ _ _ _ (c .before .first-outside .ensures) (toZ-ofZ (ends .0)) (toZ-ofZ (ends .1))
-    low high (c .one-dowel .ensures)
+    let first : c .before .first-outside .result
+    ≡ firstFrom (outside (toZ w32 (ofZ w32 (v .low))) (toZ w32 (ofZ w32 (v .high))) (below .from-end .result) (above .from-end2 .result) (now (k .args .a))) 0
+    (k .args .count) =
+    c .before .first-outside .ensures in
+    end-found (k .args .member) v (k .args .d) _ _ _ _ _ _ _ _ first (toZ-ofZ (ends .0)) (toZ-ofZ (ends .1)) low high (c .one-dowel .ensures)
 
 pub end-fault-spec : {M : Type 1} → statement M
 end-fault-spec =
