@@ -12,7 +12,7 @@ use lib.ListN.{length, getD, set, length-set}
 use lib.Seq.{getD-set-same, getD-set-other}
 use borrow.Author.Tests.{eqb-true, eqb-false, eq-eqb, ne-eqb, not-true}
 use Rattle.chain.specs.declared.Width.{Width}
-use Rattle.chain.specs.Chain.{bytesOf, pairBytes, numberAt, offsetOf, lengthOf, bound, allFollow, chained, filled, Read}
+use Rattle.chain.specs.Chain.{bytesOf, pairBytes, numberAt, offsetOf, lengthOf, bound, continues, allFollow, chained, filled, Read}
 
 -- pair k of n that lie within l bytes lies within them
 pub room : (at k n p l : ℕ) → k < n → at + n * p ≤ l → at + k * p + p ≤ l
@@ -41,7 +41,7 @@ module _ {w : Width} {s : List ℕ} {at first : ℕ} {before : List ℕ} where
 
     -- a pair more: its numbers and its test, and what is put into the list and counted on
     pub more : {size offset bytes put next there : ℕ} {right : Bool} → size ≡ bytesOf w → offset ≡ numberAt w s here
-        → bytes ≡ numberAt w s (here + size) → right ≡ (eqb offset start && not (eqb bytes 0)) → put ≡ start → next ≡ offset + bytes
+        → bytes ≡ numberAt w s (here + size) → right ≡ continues offset bytes start → put ≡ start → next ≡ offset + bytes
         → there ≡ here + 2 * size → Upto w s at first before (k + 1) (set after k put) (whole && right) next there
     unfolding bound allFollow filled
     more e f g r p n t = record {

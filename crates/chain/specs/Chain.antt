@@ -27,6 +27,10 @@ unfoldable pub filled : (ℕ → ℕ) → ℕ → List ℕ → List ℕ
 filled f zero l = l
 filled f (suc n) l = set (filled f n l) n (f n)
 
+-- a part that starts where it has to; 'No length is 0.'
+abbrev pub continues : ℕ → ℕ → ℕ → Bool
+continues offset bytes start = eqb offset start && not (eqb bytes 0)
+
 module _ (w : Width) (s : List ℕ) (at : ℕ) where
   abbrev pub offsetOf : ℕ → ℕ
   offsetOf k = numberAt w s (at + k * pairBytes w)
@@ -45,13 +49,9 @@ module _ (w : Width) (s : List ℕ) (at : ℕ) where
     bound zero = first
     bound (suc k) = sumOf k
 
-    -- 'No length is 0.'
-    abbrev pub follows : ℕ → Bool
-    follows k = eqb (offsetOf k) (bound k) && not (eqb (lengthOf k) 0)
-
     unfoldable pub allFollow : ℕ → Bool
     allFollow zero = true
-    allFollow (suc n) = allFollow n && follows n
+    allFollow (suc n) = allFollow n && continues (offsetOf n) (lengthOf n) (bound n)
 
     -- n pairs; 'the last sum is the record's length'. They are sorted by offset where this holds.
     unfoldable pub chained : ℕ → Bool

@@ -2,11 +2,9 @@
 use numbers::u16_at;
 use numbers::u32_at;
 ghost use mathlib.Core.Path.{_≡_};
-ghost use mathlib.Core.Bool.{not, _&&_};
 ghost use Prim.Native.Nat.{_+_, _*_, _≤_, _<_};
-ghost use lib.Dec.{eqb};
 ghost use lib.ListN.{length};
-ghost use Rattle.chain.specs.Chain.{bytesOf, pairBytes, numberAt, Read};
+ghost use Rattle.chain.specs.Chain.{bytesOf, pairBytes, numberAt, continues, Read};
 
 // How many bytes each number of a pair has.
 pub enum Width {
@@ -34,8 +32,8 @@ fn number_at(s: &[u8], width: Width, i: usize) -> u32
 }
 
 // Whether a pair's part starts where it has to and is not empty.
-fn follows(offset: usize, bytes: usize, start: usize) -> bool
-    ensures { λ r. ⌜ r ≡ (eqb offset start && not (eqb bytes 0)) ⌝ }
+fn continues(offset: usize, bytes: usize, start: usize) -> bool
+    ensures { λ r. ⌜ r ≡ continues offset bytes start ⌝ }
 {
     if offset != start {
         return false;
@@ -67,7 +65,7 @@ pub fn read(
     while k < count {
         let offset = number_at(s, width, here) as usize;
         let bytes = number_at(s, width, here + size) as usize;
-        whole = whole & follows(offset, bytes, start);
+        whole = whole & continues(offset, bytes, start);
         bounds[k] = start;
         start = offset + bytes;
         here += 2 * size;

@@ -53,7 +53,7 @@ read-spec =
     let n = c .before in
     let b = n .before .before .before in (
       search needs,
-      more (b .loop .inv .1) (b .before .bytes-of .ensures) (n .before .number-at .ensures) (n .number-at2 .ensures) (c .follows .ensures)
+      more (b .loop .inv .1) (b .before .bytes-of .ensures) (n .before .number-at .ensures) (n .number-at2 .ensures) (c .continues .ensures)
           (omega arith)
           (omega arith)
           (omega arith),

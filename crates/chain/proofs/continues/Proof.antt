@@ -1,10 +1,10 @@
 use native.Mathlib.Omega.{arith}
 use borrow.Author.Tests.{eq-eqb, ne-eqb}
-use Rattle.chain.proofs.follows.Statement.{statement}
-use Rattle.chain.proofs.follows.Tie as tie
+use Rattle.chain.proofs.continues.Statement.{statement}
+use Rattle.chain.proofs.continues.Tie as tie
 
-pub follows-spec : {M : Type 1} → statement M
-follows-spec =
+pub continues-spec : {M : Type 1} → statement M
+continues-spec =
     tie.close
     (tie.spec
     (λ c. let a = c .before .args in simp (ne-eqb (a .offset) (a .start) (λ e. omega (arith, c .if1 .taken))))
