@@ -1,5 +1,6 @@
-/* Times negwishal_judge against a floating-point and, with WITH_GMP, an exact version of the same job, holds their
- * answers to one another, and measures the stack.  bench [FILE..]: the records in the files are compared too. */
+/* Times the three entries of negwishal.h against a floating-point and, with WITH_GMP, an exact version of the same
+ * jobs, holds their answers to one another, and measures the stack.  bench [FILE..]: the records in the files are
+ * compared too. */
 #define _GNU_SOURCE
 #include <inttypes.h>
 #include <pthread.h>
@@ -19,21 +20,57 @@
 static const struct {
     const char *name;
     judge_fn *judge;
+    write_fn *write;
+    read_fn *read;
 } VERSION[] = {
-    {"proved", negwishal_judge},
-    {"float", float_judge},
+    {"proved", negwishal_judge, negwishal_write, negwishal_read},
+    {"float", float_judge, float_write, float_read},
 #ifdef WITH_GMP
-    {"GMP", exact_judge},
+    {"GMP", exact_judge, exact_write, exact_read},
 #endif
 };
 enum { VERSIONS = sizeof VERSION / sizeof VERSION[0] };
+
+enum job { JUDGE, WRITE, READ, JOBS };
+static const char *const JOB[JOBS] = {"judge", "write", "read"};
+
+/* A record's values: what negwishal_read hands out and negwishal_write takes. */
+#define VALUES 27
+#define DOWELS 64
+#define ROOM 600
+struct values {
+    int32_t fields[VALUES], x[DOWELS], y[DOWELS], marks[DOWELS];
+    uint64_t answer[2]; /* refusal, number of dowels */
+};
 
 struct record {
     const char *name;
     double target_ns;
     size_t length;
     uint8_t bytes[4096];
+    struct values values;
 };
+
+static void read_values(int version, const struct record *r, struct values *v)
+{
+    memset(v, 0x5a, sizeof *v);
+    VERSION[version].read(r->bytes, r->length, v->fields, VALUES, v->x, DOWELS, v->y, DOWELS, v->marks, DOWELS,
+                          v->answer, 2);
+}
+
+/* What a writer leaves: refusal, length, and the buffer whole. */
+struct written {
+    uint64_t answer[2];
+    uint8_t buffer[ROOM];
+};
+
+static void write_values(int version, const struct values *v, size_t x_len, size_t y_len, size_t room,
+                         struct written *w)
+{
+    memset(w, 0x5a, sizeof *w);
+    VERSION[version].write(v->fields, VALUES, v->x, x_len, v->y, y_len, v->marks, x_len, w->buffer, room, w->answer,
+                           2);
+}
 
 static void put16(struct record *r, unsigned v)
 {
@@ -136,12 +173,30 @@ static double now_ns(void)
     return 1e9 * (double)t.tv_sec + (double)t.tv_nsec;
 }
 
-static double batch(judge_fn *judge, const struct record *r, long calls)
+/* What the timed and the measured calls write to. */
+static struct values out;
+static uint64_t report[8];
+static uint8_t buffer[ROOM];
+
+/* One call of a job; the record's values are those that the proved version read. */
+static inline __attribute__((always_inline)) void call(enum job job, int version, const struct record *r)
 {
-    uint64_t report[8];
+    const struct values *in = &r->values;
+    if (job == JUDGE)
+        VERSION[version].judge(r->bytes, r->length, report, 8);
+    else if (job == WRITE)
+        VERSION[version].write(in->fields, VALUES, in->x, in->answer[1], in->y, in->answer[1], in->marks, in->answer[1],
+                               buffer, ROOM, report, 2);
+    else
+        VERSION[version].read(r->bytes, r->length, out.fields, VALUES, out.x, DOWELS, out.y, DOWELS, out.marks, DOWELS,
+                              out.answer, 2);
+}
+
+static double batch(enum job job, int version, const struct record *r, long calls)
+{
     double start = now_ns();
     for (long i = 0; i < calls; i++)
-        judge(r->bytes, r->length, report, 8);
+        call(job, version, r);
     return (now_ns() - start) / (double)calls;
 }
 
@@ -151,22 +206,25 @@ static int order(const void *a, const void *b)
     return (x > y) - (x < y);
 }
 
-/* Median nanoseconds a call; the versions take turns, batch by batch. */
-static void time_record(const struct record *r, double median[VERSIONS])
+/* Median nanoseconds a call; the versions and the jobs take turns, batch by batch. */
+static void time_record(const struct record *r, double median[JOBS][VERSIONS])
 {
-    static double ns[VERSIONS][BATCHES];
-    long calls[VERSIONS];
-    for (int v = 0; v < VERSIONS; v++) {
-        batch(VERSION[v].judge, r, 50);
-        calls[v] = 1 + (long)(BATCH_NS / batch(VERSION[v].judge, r, 50));
-    }
+    static double ns[JOBS][VERSIONS][BATCHES];
+    long calls[JOBS][VERSIONS];
+    for (int j = 0; j < JOBS; j++)
+        for (int v = 0; v < VERSIONS; v++) {
+            batch(j, v, r, 50);
+            calls[j][v] = 1 + (long)(BATCH_NS / batch(j, v, r, 50));
+        }
     for (int k = 0; k < BATCHES; k++)
-        for (int v = 0; v < VERSIONS; v++)
-            ns[v][k] = batch(VERSION[v].judge, r, calls[v]);
-    for (int v = 0; v < VERSIONS; v++) {
-        qsort(ns[v], BATCHES, sizeof ns[v][0], order);
-        median[v] = ns[v][BATCHES / 2];
-    }
+        for (int j = 0; j < JOBS; j++)
+            for (int v = 0; v < VERSIONS; v++)
+                ns[j][v][k] = batch(j, v, r, calls[j][v]);
+    for (int j = 0; j < JOBS; j++)
+        for (int v = 0; v < VERSIONS; v++) {
+            qsort(ns[j][v], BATCHES, sizeof ns[j][v][0], order);
+            median[j][v] = ns[j][v][BATCHES / 2];
+        }
 }
 
 /* Whether two answers can both be right: the same refusal; C and E at most 1 apart; U at most 0.5 % and 2 apart. */
@@ -193,18 +251,73 @@ static const char *line(const uint64_t *r)
     return t;
 }
 
-static int compare(const struct record *r)
+/* The values that each version reads, and the bytes that each writes from them into a buffer just long enough. */
+static int values_agree(const struct record *r)
 {
-    uint64_t report[VERSIONS][8];
+    struct values v[VERSIONS];
+    struct written w[VERSIONS];
     int good = 1;
+    for (int k = 0; k < VERSIONS; k++) {
+        read_values(k, r, &v[k]);
+        good = good && memcmp(&v[0], &v[k], sizeof v[k]) == 0;
+        write_values(k, &v[0], v[0].answer[1], v[0].answer[1], 78 + 8 * v[0].answer[1], &w[k]);
+        good = good && memcmp(&w[0], &w[k], sizeof w[k]) == 0;
+    }
+    if (v[0].answer[0] != 0)
+        return good;
+    /* what was read is written, byte for byte where the parts stand in the order of their kinds */
+    int in_order = r->bytes[20] == 1 && r->bytes[62] == 2 && r->bytes[65] == 3;
+    return good && w[0].answer[0] == 0 && w[0].answer[1] == r->length
+        && (!in_order || memcmp(w[0].buffer, r->bytes, r->length) == 0);
+}
+
+static int compare(struct record *r)
+{
+    uint64_t reports[VERSIONS][8];
+    int good = values_agree(r);
+    read_values(0, r, &r->values);
     printf("%-26s", r->name);
     for (int v = 0; v < VERSIONS; v++) {
-        VERSION[v].judge(r->bytes, r->length, report[v], 8);
-        good = good && agree(report[0], report[v]);
-        printf(" %-26s", line(report[v]));
+        VERSION[v].judge(r->bytes, r->length, reports[v], 8);
+        good = good && agree(reports[0], reports[v]);
+        printf(" %-26s", line(reports[v]));
     }
     printf(" %s\n", good ? "agree" : "DIFFER");
     return good;
+}
+
+/* Joint B's values with each place changed, with lists cut and with buffers of all lengths: how many writers differ. */
+static int compare_writers(const struct record *b)
+{
+    static const int32_t other[] = {INT32_MIN, -1, 0, 1, 2, 3, 12, 31, 199, 257, 720, 4001, 65537, 100001, 1000001,
+                                    INT32_MAX};
+    struct written w[VERSIONS];
+    int bad = 0, done = 0;
+    unsigned numbers = 0; /* the refusals seen */
+    for (int at = 0; at < VALUES; at++)
+        for (size_t k = 0; k < sizeof other / sizeof other[0]; k++)
+            for (size_t cut = 0; cut < 3; cut++) {
+                struct values v = b->values;
+                v.fields[at] = other[k];
+                for (int n = 0; n < VERSIONS; n++)
+                    write_values(n, &v, 4, cut == 1 ? 3 : 4, cut == 2 ? 109 : 120, &w[n]);
+                for (int n = 1; n < VERSIONS; n++)
+                    bad += memcmp(&w[0], &w[n], sizeof w[n]) != 0;
+                numbers |= 1u << (w[0].answer[0] & 31);
+                done++;
+            }
+    for (size_t room = 0; room <= 120; room++, done++) {
+        for (int n = 0; n < VERSIONS; n++)
+            write_values(n, &b->values, 4, 4, room, &w[n]);
+        for (int n = 1; n < VERSIONS; n++)
+            bad += memcmp(&w[0], &w[n], sizeof w[n]) != 0;
+    }
+    printf("%d sets of values written by each version; numbers", done);
+    for (unsigned k = 0; k < 32; k++)
+        if (numbers >> k & 1)
+            printf(" %u", k);
+    printf("; %d differ\n", bad);
+    return bad;
 }
 
 /* Stack: a thread on a stack of its own fills all of it below its frame with one byte, calls once, and looks for the
@@ -213,7 +326,8 @@ static int compare(const struct record *r)
 #define NEAR 256 /* bytes below the frame that are not painted: the frame's own */
 
 struct dig {
-    judge_fn *judge;
+    enum job job;
+    int version;
     const struct record *record;
     uint8_t *low;
     uint8_t pattern;
@@ -223,12 +337,11 @@ struct dig {
 static void *dig(void *p)
 {
     struct dig *g = p;
-    uint64_t report[8];
     uint8_t *frame = __builtin_frame_address(0);
-    volatile uint8_t *top = frame - NEAR - sizeof report;
+    volatile uint8_t *top = frame - NEAR;
     for (volatile uint8_t *b = g->low; b < top; b++)
         *b = g->pattern;
-    g->judge(g->record->bytes, g->record->length, report, 8);
+    call(g->job, g->version, g->record);
     volatile uint8_t *b = g->low;
     while (b < top && *b == g->pattern)
         b++;
@@ -236,14 +349,14 @@ static void *dig(void *p)
     return NULL;
 }
 
-static size_t stack_of(judge_fn *judge, const struct record *r)
+static size_t stack_of(enum job job, int version, const struct record *r)
 {
     size_t depth = 0;
     uint8_t *stack = mmap(NULL, STACK, PROT_READ | PROT_WRITE, MAP_PRIVATE | MAP_ANONYMOUS | MAP_STACK, -1, 0);
     if (stack == MAP_FAILED)
         exit(2);
     for (int k = 0; k < 2; k++) {
-        struct dig g = {judge, r, stack, k ? 0x5a : 0xa5, 0};
+        struct dig g = {job, version, r, stack, k ? 0x5a : 0xa5, 0};
         pthread_attr_t attributes;
         pthread_t thread;
         pthread_attr_init(&attributes);
@@ -257,14 +370,59 @@ static size_t stack_of(judge_fn *judge, const struct record *r)
     return depth;
 }
 
+/* The times of a job; how many are not reached.  Only judging has some to reach; the others are set against it. */
+static int print_times(enum job job, const struct record *joints, double ns[TIMED][JOBS][VERSIONS])
+{
+    int missed = 0;
+    printf("%-26s", JOB[job]);
+    for (int v = 0; v < VERSIONS; v++)
+        printf(" %10s", VERSION[v].name);
+    for (int v = 1; v < VERSIONS; v++)
+        printf("   proved/%-5s", VERSION[v].name);
+    printf(job == JUDGE ? "  to reach\n" : "  %s/judge, proved\n", JOB[job]);
+    for (int k = 0; k < TIMED; k++) {
+        const double *t = ns[k][job];
+        printf("%-26s", joints[k].name);
+        for (int v = 0; v < VERSIONS; v++)
+            printf(" %10.0f", t[v]);
+        for (int v = 1; v < VERSIONS; v++)
+            printf("   %12.2f", t[0] / t[v]);
+        if (job != JUDGE) {
+            printf("  %.4f\n", t[0] / ns[k][JUDGE][0]);
+            continue;
+        }
+        printf("  %.0f %s\n", joints[k].target_ns, t[0] <= joints[k].target_ns ? "reached" : "MISSED");
+        missed += t[0] > joints[k].target_ns;
+    }
+    return missed;
+}
+
+/* The deepest call of a job of the proved version. */
+static size_t print_stack(enum job job, const struct record *joints)
+{
+    size_t deepest = 0;
+    for (int k = 0; k < JOINTS; k++) {
+        printf("%-6s %-26s", JOB[job], joints[k].name);
+        for (int v = 0; v < VERSIONS; v++) {
+            size_t depth = stack_of(job, v, &joints[k]);
+            if (v == 0 && depth > deepest)
+                deepest = depth;
+            printf(" %10zu", depth);
+        }
+        printf("\n");
+    }
+    return deepest;
+}
+
 int main(int argc, char **argv)
 {
     static struct record joints[JOINTS], other;
+    static double ns[TIMED][JOBS][VERSIONS];
     int bad = 0, missed = 0;
     size_t deepest = 0;
     write_records(joints);
 
-    printf("Answers (U C E, or a refusal's number and place)\n%-26s", "");
+    printf("Answers (U C E, or a refusal's number and place); values read and bytes written agree too\n%-26s", "");
     for (int v = 0; v < VERSIONS; v++)
         printf(" %-26s", VERSION[v].name);
     printf("\n");
@@ -283,35 +441,19 @@ int main(int argc, char **argv)
         bad += !compare(&other);
     }
 
-    printf("\nTime: ns per call, median of %d batches of about %.0f ms, the versions taking turns\n%-26s", BATCHES,
-           BATCH_NS / 1e6, "");
-    for (int v = 0; v < VERSIONS; v++)
-        printf(" %10s", VERSION[v].name);
-    for (int v = 1; v < VERSIONS; v++)
-        printf("   proved/%-5s", VERSION[v].name);
-    printf("  to reach\n");
-    for (int k = 0; k < TIMED; k++) {
-        double ns[VERSIONS];
-        time_record(&joints[k], ns);
-        printf("%-26s", joints[k].name);
-        for (int v = 0; v < VERSIONS; v++)
-            printf(" %10.0f", ns[v]);
-        for (int v = 1; v < VERSIONS; v++)
-            printf("   %12.2f", ns[0] / ns[v]);
-        printf("  %.0f %s\n", joints[k].target_ns, ns[0] <= joints[k].target_ns ? "reached" : "MISSED");
-        missed += ns[0] > joints[k].target_ns;
-    }
+    bad += compare_writers(&joints[0]);
+
+    printf("\nTime: ns per call, median of %d batches of about %.0f ms, the versions and jobs taking turns\n", BATCHES,
+           BATCH_NS / 1e6);
+    for (int k = 0; k < TIMED; k++)
+        time_record(&joints[k], ns[k]);
+    for (int j = 0; j < JOBS; j++)
+        missed += print_times(j, joints, ns);
 
     printf("\nStack: deepest byte that one call changed, in bytes below the caller's frame, on a painted stack\n");
-    for (int k = 0; k < JOINTS; k++) {
-        printf("%-26s", joints[k].name);
-        for (int v = 0; v < VERSIONS; v++) {
-            size_t depth = stack_of(VERSION[v].judge, &joints[k]);
-            if (v == 0 && depth > deepest)
-                deepest = depth;
-            printf(" %10zu", depth);
-        }
-        printf("\n");
+    for (int j = 0; j < JOBS; j++) {
+        size_t depth = print_stack(j, joints);
+        deepest = depth > deepest ? depth : deepest;
     }
     missed += deepest >= 65536;
     printf("proved: at most %zu bytes; to reach: under 65536, %s\n", deepest, deepest < 65536 ? "reached" : "MISSED");

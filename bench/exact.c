@@ -1,5 +1,6 @@
 /* The same job exactly, on GMP: every comparison is one of whole numbers, every root is rounded towards the safe
- * side.  C and E are the greatest whole numbers allowed.  Nothing here is proved: it is a yardstick. */
+ * side.  C and E are the greatest whole numbers allowed.  At the end, a record from values and values from a record.
+ * Nothing here is proved: it is a yardstick. */
 #include <gmp.h>
 #include <stdlib.h>
 #include <string.h>
@@ -43,6 +44,34 @@ static int32_t i32_at(const uint8_t *b)
 
 static int within(int32_t z, int32_t limit) { return -limit <= z && z <= limit; }
 
+/* Refusals 7 to 9, or 0; the number of dowels is tested before. */
+static unsigned value_fault(const struct joint *j)
+{
+    int good = 1 <= j->planes && j->planes <= 2 && 6 <= j->d && j->d <= 30 && 1 <= j->steel && j->steel <= 3
+            && 1 <= j->service && j->service <= 3 && 1 <= j->duration && j->duration <= 5;
+    for (int k = 0; k < 2; k++) {
+        const struct member *m = &j->members[k];
+        good = good && 1 <= m->class && m->class <= CLASSES && m->grain <= 1 && 200 <= m->thickness
+            && m->thickness <= 4000;
+        for (int a = 0; a < 2; a++)
+            good = good && within(m->low[a], 100000) && within(m->high[a], 100000);
+    }
+    for (int a = 0; a < 2; a++) {
+        for (unsigned i = 0; i < j->n; i++)
+            good = good && within(j->at[a][i], 100000);
+        good = good && within(j->force[a], 1000000);
+    }
+    if (!good)
+        return 7;
+    for (int k = 0; k < 2; k++)
+        for (int a = 0; a < 2; a++)
+            if (j->members[k].low[a] >= j->members[k].high[a])
+                return 8;
+    if (j->force[0] == 0 && j->force[1] == 0)
+        return 9;
+    return 0;
+}
+
 /* Refusals 1 to 9, or 0. */
 static unsigned read_joint(const uint8_t *b, size_t length, struct joint *j)
 {
@@ -83,39 +112,23 @@ static unsigned read_joint(const uint8_t *b, size_t length, struct joint *j)
     j->steel = part[1][2];
     j->service = part[3][1];
     j->duration = part[3][2];
-    int good = 1 <= j->planes && j->planes <= 2 && 6 <= j->d && j->d <= 30 && 1 <= j->steel && j->steel <= 3
-            && 1 <= j->service && j->service <= 3 && 1 <= j->duration && j->duration <= 5;
     for (int k = 0; k < 2; k++) {
         const uint8_t *p = part[0] + 2 + 20 * k;
         struct member *m = &j->members[k];
         m->class = p[0];
         m->grain = p[1];
         m->thickness = u16_at(p + 2);
-        good = good && 1 <= m->class && m->class <= CLASSES && m->grain <= 1 && 200 <= m->thickness
-            && m->thickness <= 4000;
         for (int a = 0; a < 2; a++) {
             m->low[a] = i32_at(p + 4 + 4 * a);
             m->high[a] = i32_at(p + 12 + 4 * a);
-            good = good && within(m->low[a], 100000) && within(m->high[a], 100000);
         }
     }
     for (int a = 0; a < 2; a++) {
-        for (unsigned i = 0; i < j->n; i++) {
+        for (unsigned i = 0; i < j->n; i++)
             j->at[a][i] = i32_at(part[2] + 2 + 8 * i + 4 * a);
-            good = good && within(j->at[a][i], 100000);
-        }
         j->force[a] = i32_at(part[3] + 3 + 4 * a);
-        good = good && within(j->force[a], 1000000);
     }
-    if (!good)
-        return 7;
-    for (int k = 0; k < 2; k++)
-        for (int a = 0; a < 2; a++)
-            if (j->members[k].low[a] >= j->members[k].high[a])
-                return 8;
-    if (j->force[0] == 0 && j->force[1] == 0)
-        return 9;
-    return 0;
+    return value_fault(j);
 }
 
 static uint64_t square(int64_t z) { return (uint64_t)(z * z); }
@@ -386,5 +399,127 @@ uint32_t exact_judge(const uint8_t *record, size_t record_len, uint64_t *report,
     }
     if (report[1] == 0)
         figures(&j, report);
+    return 0;
+}
+
+/* ---- values: 27 numbers in the header's order, x and y */
+
+enum { VALUES = 27, MEMBER_VALUES = 9, VERSION = 1 };
+
+/* Refusals 2 and 7 to 9, or 0.  A number below 0 is far above its limit as an unsigned one. */
+static unsigned take_joint(const int32_t *fields, const int32_t *const at[2], size_t x_len, size_t y_len,
+                           struct joint *j)
+{
+    if (fields[0] != VERSION)
+        return 2;
+    if (x_len != y_len || x_len < 1 || x_len > 64)
+        return 7;
+    j->planes = (unsigned)fields[1];
+    for (int k = 0; k < 2; k++) {
+        const int32_t *f = fields + 2 + MEMBER_VALUES * k;
+        struct member *m = &j->members[k];
+        m->class = (unsigned)f[0];
+        m->grain = (unsigned)f[1];
+        m->thickness = (unsigned)f[4];
+        for (int a = 0; a < 2; a++) {
+            m->low[a] = f[5 + a];
+            m->high[a] = f[7 + a];
+        }
+    }
+    j->d = (unsigned)fields[20];
+    j->steel = (unsigned)fields[21];
+    j->service = (unsigned)fields[23];
+    j->duration = (unsigned)fields[24];
+    j->n = (unsigned)x_len;
+    for (int a = 0; a < 2; a++) {
+        memcpy(j->at[a], at[a], x_len * sizeof at[a][0]);
+        j->force[a] = fields[25 + a];
+    }
+    return value_fault(j);
+}
+
+static uint8_t *put(uint8_t *b, uint32_t z, int width)
+{
+    for (int i = 0; i < width; i++)
+        *b++ = (uint8_t)(z >> 8 * i);
+    return b;
+}
+
+static void write_joint(const struct joint *j, uint8_t *b)
+{
+    const unsigned lengths[4] = {42, 3, 2 + 8 * j->n, 11};
+    unsigned offset = 20;
+    b = put(put(b, VERSION, 2), 4, 2);
+    for (int k = 0; k < 4; k++) {
+        b = put(put(b, offset, 2), lengths[k], 2);
+        offset += lengths[k];
+    }
+    b = put(put(b, 1, 1), j->planes, 1);
+    for (int k = 0; k < 2; k++) {
+        const struct member *m = &j->members[k];
+        b = put(put(put(b, m->class, 1), m->grain, 1), m->thickness, 2);
+        for (int a = 0; a < 2; a++)
+            b = put(b, (uint32_t)m->low[a], 4);
+        for (int a = 0; a < 2; a++)
+            b = put(b, (uint32_t)m->high[a], 4);
+    }
+    b = put(put(put(b, 2, 1), j->d, 1), j->steel, 1);
+    b = put(put(b, 3, 1), j->n, 1);
+    for (unsigned i = 0; i < j->n; i++)
+        b = put(put(b, (uint32_t)j->at[0][i], 4), (uint32_t)j->at[1][i], 4);
+    b = put(put(put(b, 4, 1), j->service, 1), j->duration, 1);
+    put(put(b, (uint32_t)j->force[0], 4), (uint32_t)j->force[1], 4);
+}
+
+uint32_t exact_write(const int32_t *fields, size_t fields_len, const int32_t *x, size_t x_len, const int32_t *y,
+                     size_t y_len, const int32_t *marks, size_t marks_len, uint8_t *buffer, size_t buffer_len,
+                     uint64_t *answer, size_t answer_len)
+{
+    struct joint j;
+    const int32_t *const at[2] = {x, y};
+    (void)marks; /* version 1 has none */
+    (void)marks_len;
+    if (fields_len < VALUES || answer_len < 2)
+        return 1;
+    answer[0] = take_joint(fields, at, x_len, y_len, &j);
+    if (answer[0] == 0 && buffer_len < 78 + 8 * x_len)
+        answer[0] = 13;
+    answer[1] = answer[0] == 0 ? 78 + 8 * x_len : 0;
+    if (answer[0] == 0)
+        write_joint(&j, buffer);
+    return 0;
+}
+
+uint32_t exact_read(const uint8_t *record, size_t record_len, int32_t *fields, size_t fields_len, int32_t *x,
+                    size_t x_len, int32_t *y, size_t y_len, int32_t *marks, size_t marks_len, uint64_t *answer,
+                    size_t answer_len)
+{
+    struct joint j;
+    int32_t *const to[3] = {x, y, marks};
+    if (fields_len < VALUES || x_len < 64 || y_len < 64 || marks_len < 64 || answer_len < 2)
+        return 1;
+    memset(fields, 0, VALUES * sizeof fields[0]);
+    for (int a = 0; a < 3; a++)
+        memset(to[a], 0, 64 * sizeof to[a][0]);
+    answer[0] = read_joint(record, record_len, &j);
+    answer[1] = answer[0] == 0 ? j.n : 0;
+    if (answer[0] != 0)
+        return 0;
+    fields[0] = VERSION;
+    fields[1] = (int32_t)j.planes;
+    for (int k = 0; k < 2; k++) {
+        const struct member *m = &j.members[k];
+        const int32_t f[MEMBER_VALUES] = {(int32_t)m->class, (int32_t)m->grain, 0, 0, (int32_t)m->thickness,
+                                          m->low[0], m->low[1], m->high[0], m->high[1]};
+        memcpy(fields + 2 + MEMBER_VALUES * k, f, sizeof f);
+    }
+    fields[20] = (int32_t)j.d;
+    fields[21] = (int32_t)j.steel;
+    fields[23] = (int32_t)j.service;
+    fields[24] = (int32_t)j.duration;
+    for (int a = 0; a < 2; a++) {
+        fields[25 + a] = j.force[a];
+        memcpy(to[a], j.at[a], j.n * sizeof to[a][0]);
+    }
     return 0;
 }

@@ -1,4 +1,5 @@
-// The same job in plain floating point: read a record, refuse it, or give verdict, use, capacity and row share.
+// The same job in plain floating point: read a record, refuse it, or give verdict, use, capacity and row share; write a
+// record from values and read values from a record.
 // Nothing here is proved, and comparisons are only as good as f64: it is a yardstick for the benchmark.
 
 // By class from 1: k90 without its 0.015 d (1.35 softwood, 0.90 hardwood), and the density.
@@ -116,6 +117,35 @@ fn member(b: &[u8], i: usize) -> Member {
     }
 }
 
+// Refusals 7 to 9; the number of dowels is tested before.
+fn value_fault(j: &Joint) -> Result<(), Refusal> {
+    let coordinate = |z: f64| z.abs() <= 100_000.;
+    let fields = (1..=2).contains(&j.planes)
+        && j.members.iter().all(|m| {
+            (1..=WOOD.len()).contains(&(m.class as usize))
+                && m.grain <= 1
+                && (200. ..=4000.).contains(&m.thickness)
+                && [m.x0, m.y0, m.x1, m.y1].into_iter().all(coordinate)
+        })
+        && (6. ..=30.).contains(&j.d)
+        && (1..=3).contains(&j.steel)
+        && j.x[..j.n].iter().chain(&j.y[..j.n]).all(|&z| coordinate(z))
+        && (1..=3).contains(&j.service)
+        && (1..=5).contains(&j.duration)
+        && j.fx.abs() <= 1e6
+        && j.fy.abs() <= 1e6;
+    if !fields {
+        return refuse(7);
+    }
+    if j.members.iter().any(|m| m.x0 >= m.x1 || m.y0 >= m.y1) {
+        return refuse(8);
+    }
+    if j.fx == 0. && j.fy == 0. {
+        return refuse(9);
+    }
+    Ok(())
+}
+
 // Refusals 1 to 9.
 fn read(b: &[u8]) -> Result<Joint, Refusal> {
     let at = layout(b)?;
@@ -140,30 +170,7 @@ fn read(b: &[u8]) -> Result<Joint, Refusal> {
         j.x[i] = i32_at(b, at[2] + 2 + 8 * i);
         j.y[i] = i32_at(b, at[2] + 6 + 8 * i);
     }
-    let coordinate = |z: f64| z.abs() <= 100_000.;
-    let fields = (1..=2).contains(&j.planes)
-        && j.members.iter().all(|m| {
-            (1..=WOOD.len()).contains(&(m.class as usize))
-                && m.grain <= 1
-                && (200. ..=4000.).contains(&m.thickness)
-                && [m.x0, m.y0, m.x1, m.y1].into_iter().all(coordinate)
-        })
-        && (6. ..=30.).contains(&j.d)
-        && (1..=3).contains(&j.steel)
-        && j.x[..n].iter().chain(&j.y[..n]).all(|&z| coordinate(z))
-        && (1..=3).contains(&j.service)
-        && (1..=5).contains(&j.duration)
-        && j.fx.abs() <= 1e6
-        && j.fy.abs() <= 1e6;
-    if !fields {
-        return refuse(7);
-    }
-    if j.members.iter().any(|m| m.x0 >= m.x1 || m.y0 >= m.y1) {
-        return refuse(8);
-    }
-    if j.fx == 0. && j.fy == 0. {
-        return refuse(9);
-    }
+    value_fault(&j)?;
     Ok(j)
 }
 
@@ -291,5 +298,199 @@ pub unsafe extern "C" fn float_judge(record: *const u8, record_len: usize, repor
     let record = unsafe { std::slice::from_raw_parts(record, record_len) };
     let report = unsafe { std::slice::from_raw_parts_mut(report, report_len) };
     report[..8].copy_from_slice(&judge(record));
+    0
+}
+
+// ---- values: 27 numbers in the header's order, x and y
+
+const VALUES: usize = 27;
+const DOWELS: usize = 64;
+const VERSION: u16 = 1;
+
+// A number as the byte that a code fills; a refused one, 0, where it is too wide (no code is 0 but the grain's).
+fn code(z: i32) -> u8 {
+    u8::try_from(z).unwrap_or(0)
+}
+
+fn member_from(f: &[i32]) -> Member {
+    Member {
+        class: code(f[0]),
+        grain: u8::try_from(f[1]).unwrap_or(u8::MAX),
+        thickness: f[4] as f64,
+        x0: f[5] as f64,
+        y0: f[6] as f64,
+        x1: f[7] as f64,
+        y1: f[8] as f64,
+    }
+}
+
+// Refusals 2 and 7 to 9.
+fn take(fields: &[i32], x: &[i32], y: &[i32]) -> Result<Joint, Refusal> {
+    if fields[0] != VERSION as i32 {
+        return refuse(2);
+    }
+    let n = x.len();
+    if n != y.len() || !(1..=DOWELS).contains(&n) {
+        return refuse(7);
+    }
+    let mut j = Joint {
+        planes: code(fields[1]),
+        members: [member_from(&fields[2..11]), member_from(&fields[11..20])],
+        d: fields[20] as f64,
+        steel: code(fields[21]),
+        n,
+        x: [0.; DOWELS],
+        y: [0.; DOWELS],
+        service: code(fields[23]),
+        duration: code(fields[24]),
+        fx: fields[25] as f64,
+        fy: fields[26] as f64,
+    };
+    for i in 0..n {
+        j.x[i] = x[i] as f64;
+        j.y[i] = y[i] as f64;
+    }
+    value_fault(&j)?;
+    Ok(j)
+}
+
+// Bytes one after the other into a buffer that is long enough.
+struct Put<'a> {
+    buffer: &'a mut [u8],
+    at: usize,
+}
+
+impl Put<'_> {
+    fn bytes(&mut self, b: &[u8]) {
+        self.buffer[self.at..self.at + b.len()].copy_from_slice(b);
+        self.at += b.len();
+    }
+    fn u16(&mut self, z: u16) {
+        self.bytes(&z.to_le_bytes());
+    }
+    fn i32(&mut self, z: f64) {
+        self.bytes(&(z as i32).to_le_bytes());
+    }
+}
+
+fn write_joint(j: &Joint, buffer: &mut [u8]) {
+    let mut p = Put { buffer, at: 0 };
+    p.u16(VERSION);
+    p.u16(4);
+    let mut offset = 20;
+    for length in [42, 3, 2 + 8 * j.n as u16, 11] {
+        p.u16(offset);
+        p.u16(length);
+        offset += length;
+    }
+    p.bytes(&[1, j.planes]);
+    for m in &j.members {
+        p.bytes(&[m.class, m.grain]);
+        p.u16(m.thickness as u16);
+        for z in [m.x0, m.y0, m.x1, m.y1] {
+            p.i32(z);
+        }
+    }
+    p.bytes(&[2, j.d as u8, j.steel]);
+    p.bytes(&[3, j.n as u8]);
+    for i in 0..j.n {
+        p.i32(j.x[i]);
+        p.i32(j.y[i]);
+    }
+    p.bytes(&[4, j.service, j.duration]);
+    p.i32(j.fx);
+    p.i32(j.fy);
+}
+
+/// # Safety
+/// The slices are as include/negwishal.h says for negwishal_write.
+#[no_mangle]
+pub unsafe extern "C" fn float_write(
+    fields: *const i32,
+    fields_len: usize,
+    x: *const i32,
+    x_len: usize,
+    y: *const i32,
+    y_len: usize,
+    _marks: *const i32,
+    _marks_len: usize,
+    buffer: *mut u8,
+    buffer_len: usize,
+    answer: *mut u64,
+    answer_len: usize,
+) -> u32 {
+    if fields_len < VALUES || answer_len < 2 {
+        return 1;
+    }
+    let fields = unsafe { std::slice::from_raw_parts(fields, fields_len) };
+    let (x, y) = unsafe { (std::slice::from_raw_parts(x, x_len), std::slice::from_raw_parts(y, y_len)) };
+    let buffer = unsafe { std::slice::from_raw_parts_mut(buffer, buffer_len) };
+    let answer = unsafe { std::slice::from_raw_parts_mut(answer, answer_len) };
+    let length = 78 + 8 * x_len;
+    let made = match take(fields, x, y) {
+        Err(r) => Err(r[0]),
+        Ok(_) if buffer_len < length => Err(13),
+        Ok(j) => Ok(j),
+    };
+    match made {
+        Ok(j) => {
+            write_joint(&j, buffer);
+            answer[..2].copy_from_slice(&[0, length as u64]);
+        }
+        Err(number) => answer[..2].copy_from_slice(&[number, 0]),
+    }
+    0
+}
+
+/// # Safety
+/// The slices are as include/negwishal.h says for negwishal_read.
+#[no_mangle]
+pub unsafe extern "C" fn float_read(
+    record: *const u8,
+    record_len: usize,
+    fields: *mut i32,
+    fields_len: usize,
+    x: *mut i32,
+    x_len: usize,
+    y: *mut i32,
+    y_len: usize,
+    marks: *mut i32,
+    marks_len: usize,
+    answer: *mut u64,
+    answer_len: usize,
+) -> u32 {
+    if fields_len < VALUES || x_len.min(y_len).min(marks_len) < DOWELS || answer_len < 2 {
+        return 1;
+    }
+    let record = unsafe { std::slice::from_raw_parts(record, record_len) };
+    let fields = unsafe { std::slice::from_raw_parts_mut(fields, VALUES) };
+    let x = unsafe { std::slice::from_raw_parts_mut(x, DOWELS) };
+    let y = unsafe { std::slice::from_raw_parts_mut(y, DOWELS) };
+    let answer = unsafe { std::slice::from_raw_parts_mut(answer, 2) };
+    unsafe { std::slice::from_raw_parts_mut(marks, DOWELS) }.fill(0);
+    fields.fill(0);
+    x.fill(0);
+    y.fill(0);
+    let j = match read(record) {
+        Ok(j) => j,
+        Err(r) => {
+            answer.copy_from_slice(&[r[0], 0]);
+            return 0;
+        }
+    };
+    fields[0] = VERSION as i32;
+    fields[1] = j.planes as i32;
+    for (m, f) in j.members.iter().zip(fields[2..20].chunks_exact_mut(9)) {
+        let outline = [m.x0 as i32, m.y0 as i32, m.x1 as i32, m.y1 as i32];
+        f[..5].copy_from_slice(&[m.class as i32, m.grain as i32, 0, 0, m.thickness as i32]);
+        f[5..].copy_from_slice(&outline);
+    }
+    let (service, duration) = (j.service as i32, j.duration as i32);
+    fields[20..].copy_from_slice(&[j.d as i32, j.steel as i32, 0, service, duration, j.fx as i32, j.fy as i32]);
+    for i in 0..j.n {
+        x[i] = j.x[i] as i32;
+        y[i] = j.y[i] as i32;
+    }
+    answer.copy_from_slice(&[0, j.n as u64]);
     0
 }

@@ -1,7 +1,8 @@
-"""The engineer: an exact reference for document 01 with request A1 of 02, written from these documents alone.
+"""The engineer: an exact reference for document 01 with requests A1 and A2 of 02, written from these documents alone.
 
 Whole numbers and fractions only.  Reference(record) settles the refusal or the
 exact quantities once; its check(line) says whether an output line is right.
+after_write and after_read say what the two C entries leave behind.
 """
 from fractions import Fraction
 from math import gcd, isqrt
@@ -78,7 +79,12 @@ def read(data):
     j.fx = _i32(loads, 3)
     j.fy = _i32(loads, 7)
 
-    within = (1 <= j.p <= 2 and 6 <= j.d <= 30 and 1 <= j.steel <= 3 and 1 <= count <= 64
+    return value_fault(j) or j
+
+
+def value_fault(j):
+    """The refusal 7, 8 or 9, or 0."""
+    within = (1 <= j.p <= 2 and 6 <= j.d <= 30 and 1 <= j.steel <= 3 and 1 <= len(j.dowels) <= 64
               and 1 <= j.service <= 3 and 1 <= j.duration <= 5
               and -1000000 <= j.fx <= 1000000 and -1000000 <= j.fy <= 1000000)
     for m in (0, 1):
@@ -91,9 +97,98 @@ def read(data):
     for x0, y0, x1, y1 in j.outline:
         if x0 >= x1 or y0 >= y1:
             return 8
-    if j.fx == 0 and j.fy == 0:
-        return 9
+    return 9 if j.fx == 0 and j.fy == 0 else 0
+
+
+# ------------------------------------------------------- values to bytes and back
+
+# The numbers handed over, in order; 'None' has no field in version 1.
+HANDED = ("version", "p",
+          *(name and "%s %d" % (name, m) for m in (1, 2)
+            for name in ("class", "grain", None, None, "thickness", "x0", "y0", "x1", "y1")),
+          "d", "steel", None, "service", "duration", "fx", "fy")
+PLACES = len(HANDED)
+DOWELS = 64                                                   # places of x, y and marks that are read back
+
+
+def joint_of(fields, x, y):
+    """The values handed over, as a Joint; x and y of one length."""
+    v = dict(zip(HANDED, fields))
+    j = Joint()
+    j.p, j.d, j.steel = v["p"], v["d"], v["steel"]
+    j.cls, j.grain, j.t = ((v[name + " 1"], v[name + " 2"]) for name in ("class", "grain", "thickness"))
+    j.outline = tuple(tuple(v["%s %d" % (limit, m)] for limit in ("x0", "y0", "x1", "y1")) for m in (1, 2))
+    j.dowels = list(zip(x, y))
+    j.service, j.duration, j.fx, j.fy = v["service"], v["duration"], v["fx"], v["fy"]
     return j
+
+
+def _le(number, width):
+    return bytes(number >> 8 * k & 255 for k in range(width))
+
+
+def record_of(j):
+    """The record's bytes, its parts in the order of their kinds."""
+    members = _le(1, 1) + _le(j.p, 1)
+    for m in (0, 1):
+        members += _le(j.cls[m], 1) + _le(j.grain[m], 1) + _le(j.t[m], 2) + b"".join(_le(x, 4) for x in j.outline[m])
+    dowel = _le(2, 1) + _le(j.d, 1) + _le(j.steel, 1)
+    places = _le(3, 1) + _le(len(j.dowels), 1) + b"".join(_le(x, 4) + _le(y, 4) for x, y in j.dowels)
+    loads = _le(4, 1) + _le(j.service, 1) + _le(j.duration, 1) + _le(j.fx, 4) + _le(j.fy, 4)
+    at, head, body = 20, _le(1, 2) + _le(4, 2), b""
+    for part in (members, dowel, places, loads):
+        head += _le(at, 2) + _le(len(part), 2)
+        at += len(part)
+        body += part
+    return head + body
+
+
+def written(fields, x, y, room):
+    """(refusal, record): one of the two is 0 or empty.  The marks have no field in version 1."""
+    if fields[0] != 1:
+        return 2, b""
+    if len(x) != len(y):
+        return 7, b""
+    j = joint_of(fields, x, y)
+    number = value_fault(j)
+    if number:
+        return number, b""
+    record = record_of(j)
+    return (13, b"") if room < len(record) else (0, record)
+
+
+def after_write(fields, x, y, marks, buffer, answer):
+    """(code, buffer, answer) after the C entry's call."""
+    if len(fields) < PLACES or len(answer) < 2:
+        return 1, buffer, answer
+    number, record = written(fields, x, y, len(buffer))
+    return 0, record + buffer[len(record):], [number, len(record)] + answer[2:]
+
+
+def values_of(data):
+    """(refusal, number of dowels, fields, x, y, marks)."""
+    j = read(data)
+    if not isinstance(j, Joint):
+        return j, 0, [0] * PLACES, [0] * DOWELS, [0] * DOWELS, [0] * DOWELS
+    fields = [1, j.p]
+    for m in (0, 1):
+        fields += [j.cls[m], j.grain[m], 0, 0, j.t[m], *j.outline[m]]
+    fields += [j.d, j.steel, 0, j.service, j.duration, j.fx, j.fy]
+    rest = [0] * (DOWELS - len(j.dowels))
+    return 0, len(j.dowels), fields, [x for x, _ in j.dowels] + rest, [y for _, y in j.dowels] + rest, [0] * DOWELS
+
+
+def after_read(data, fields, x, y, marks, answer):
+    """(code, fields, x, y, marks, answer) after the C entry's call."""
+    if len(fields) < PLACES or min(len(x), len(y), len(marks)) < DOWELS or len(answer) < 2:
+        return 1, fields, x, y, marks, answer
+    number, n, *lists = values_of(data)
+    return (0, *(new + old[len(new):] for new, old in zip(lists, (fields, x, y, marks))), [number, n] + answer[2:])
+
+
+def normal(fields):
+    """What reads back of the fields written: 0 where version 1 has no field."""
+    return [number if name else 0 for name, number in zip(HANDED, fields)]
 
 
 # ------------------------------------------------------------------- spacing

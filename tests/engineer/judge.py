@@ -1,4 +1,11 @@
-"""Programs under test.  Each has judge(bytes) -> line, a str with its newline."""
+"""Programs under test.  Each has judge(bytes) -> line, a str with its newline.
+
+Those with `writes` have the two other C entries as well:
+write(fields, x, y, marks, buffer, answer) -> (code, buffer, answer) and
+read(record, fields, x, y, marks, answer) -> (code, fields, x, y, marks, answer),
+what is lent and what stands there afterwards; or a str that says what went wrong.
+"""
+from array import array
 import ctypes
 import shlex
 import subprocess
@@ -9,6 +16,7 @@ import model
 class StandIn:
     """model.py (or a wrong program) in this process."""
     program = True              # has the program's rule of 4,096 bytes
+    writes = True
 
     def __init__(self, cls=model.Model):
         self.cls = cls
@@ -19,6 +27,25 @@ class StandIn:
         except Exception as fault:          # a crash is an answer too, a wrong one
             return "crashed: %s: %s" % (type(fault).__name__, fault)
 
+    def write(self, fields, x, y, marks, buffer, answer):
+        after, told = bytearray(buffer), list(answer)
+        lists = [list(z) for z in (fields, x, y, marks)]
+        try:
+            code = self.cls().write(*lists, after, told)
+        except Exception as fault:
+            return "crashed: %s: %s" % (type(fault).__name__, fault)
+        if lists != [fields, x, y, marks]:
+            return "a list changed that is only read"
+        return code, bytes(after), told
+
+    def read(self, record, *lent):
+        after = [list(z) for z in lent]
+        try:
+            code = self.cls().read_values(record, *after)
+        except Exception as fault:
+            return "crashed: %s: %s" % (type(fault).__name__, fault)
+        return (code, *after)
+
     def close(self):
         pass
 
@@ -26,6 +53,7 @@ class StandIn:
 class Command:
     """A program that gets one record on standard input and prints one line."""
     program = True
+    writes = False
 
     def __init__(self, command):
         self.command = shlex.split(command)
@@ -47,11 +75,59 @@ class Command:
         pass
 
 
-class Library:
-    """A shared object with a C entry:
+class Arena:
+    """Room for the slices of one call, with marked bytes before, between and behind them."""
+    ROOM = 1 << 20
+    GAP = b"\xa5" * 24
 
-        uint32_t entry(const uint8_t *record, size_t record_len,
-                      uint64_t *report, size_t report_len);
+    def __init__(self):
+        self.words = (ctypes.c_uint64 * (self.ROOM // 8))()
+        self.bytes = memoryview(self.words).cast("B")
+        self.start = ctypes.addressof(self.words)
+
+    def lay(self, blocks):
+        """The image of the blocks (bytes, place modulo 8) and where each starts."""
+        image, starts = bytearray(self.GAP), []
+        for block, place in blocks:
+            image += self.GAP[:16 + (place - len(image)) % 8]
+            starts.append(len(image))
+            image += block
+        return image + self.GAP, starts
+
+    def call(self, entry, blocks, written):
+        """The code and the blocks with these numbers afterwards, or a str."""
+        image, starts = self.lay(blocks)
+        self.bytes[:len(image)] = image
+        words = []
+        for start, (block, place) in zip(starts, blocks):
+            words += [self.start + start, len(block) // WIDTH[place]]
+        code = entry(*words)
+        after = bytearray(self.bytes[:len(image)])
+        out = []
+        for k in written:
+            start, end = starts[k], starts[k] + len(blocks[k][0])
+            out.append(bytes(after[start:end]))
+            after[start:end] = image[start:end]
+        if after != image:
+            return "a byte changed beside what is lent to be written"
+        return (code, *out)
+
+
+# places of a block modulo 8: no more is promised than its alignment
+BYTES, I32, U64 = 3, 4, 0
+WIDTH = {BYTES: 1, I32: 4, U64: 8}
+
+
+def i32s(numbers):
+    return array("i", numbers).tobytes(), I32
+
+
+def u64s(numbers):
+    return array("Q", numbers).tobytes(), U64
+
+
+class Library:
+    """A shared object with the C entries of include/negwishal.h; the first of them may have another name.
 
     FIELDS names the report's numbers in order.  The library has no rule of 4,096 bytes.
     """
@@ -62,10 +138,30 @@ class Library:
     MARK = 0xA5A5A5A5A5A5A5A5
 
     def __init__(self, path, entry="negwishal_judge"):
-        self.call = getattr(ctypes.CDLL(path), entry)
+        library = ctypes.CDLL(path)
+        self.call = getattr(library, entry)
         self.call.restype = ctypes.c_int32
         self.call.argtypes = (ctypes.POINTER(ctypes.c_uint8), ctypes.c_size_t,
                               ctypes.POINTER(ctypes.c_uint64), ctypes.c_size_t)
+        self.writes = hasattr(library, "negwishal_write")
+        if self.writes:
+            self.arena = Arena()
+            self.entries = library.negwishal_write, library.negwishal_read
+            for called in self.entries:
+                called.restype = ctypes.c_uint32
+                called.argtypes = (ctypes.c_void_p, ctypes.c_size_t) * 6
+
+    def write(self, fields, x, y, marks, buffer, answer):
+        got = self.arena.call(self.entries[0], [i32s(fields), i32s(x), i32s(y), i32s(marks), (buffer, BYTES),
+                                                u64s(answer)], (4, 5))
+        return got if isinstance(got, str) else (*got[:2], array("Q", got[2]).tolist())
+
+    def read(self, record, *lent):
+        got = self.arena.call(self.entries[1], [(record, BYTES), *map(i32s, lent[:4]), u64s(lent[4])],
+                              (1, 2, 3, 4, 5))
+        if isinstance(got, str):
+            return got
+        return (got[0], *(array("i", z).tolist() for z in got[1:5]), array("Q", got[5]).tolist())
 
     def verdict(self, status, report):
         """'refused', 'fits' or 'overloaded'."""

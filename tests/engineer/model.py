@@ -1,4 +1,5 @@
 """A stand-in program: one record on standard input, one line on standard output.
+write and read_values stand in for the library's C entries.
 
 Whole numbers only.  It shares nothing with engineer.py and finds its figures by
 whole roots, where the engineer tests powers.  The small methods are there so that
@@ -194,6 +195,137 @@ class Model:
     def test_force(self):
         if self.force == (0, 0):
             raise Refused(9)
+
+    # ---- writing (02, A2), with the reader's tests of values
+
+    needs = {"fields": 27, "positions": 64, "answer": 2}
+    known = (1,)
+    writer_tests = ("test_known", "test_lists") + value_tests + ("test_room",)
+    kind_order = (1, 2, 3, 4)
+
+    def write(self, fields, x, y, marks, buffer, answer):
+        """The code; answer (a list) and buffer (a bytearray) are changed in place."""
+        if self.short("fields", fields) or self.short("answer", answer):
+            return 1
+        self.take_handed(fields, x, y, marks)
+        self.room = len(buffer)
+        try:
+            for test in self.writer_tests:
+                getattr(self, test)()
+        except Refused as r:
+            self.refuse_write(r.place[0], buffer, answer)
+            return 0
+        record = self.record()
+        self.fill(buffer, record)
+        answer[0], answer[1] = 0, len(record)
+        return 0
+
+    def short(self, name, numbers):
+        return len(numbers) < self.needs[name]
+
+    def fill(self, buffer, record):
+        buffer[:len(record)] = record
+
+    def refuse_write(self, number, buffer, answer):
+        answer[0], answer[1] = number, 0
+
+    def take_handed(self, fields, x, y, marks):
+        self.version, self.p = fields[0], fields[1]
+        one, two = fields[2:11], fields[11:20]
+        self.cls, self.grain, self.t = ([one[k], two[k]] for k in (0, 1, 4))
+        self.outline = [list(one[5:9]), list(two[5:9])]
+        self.d, self.steel, _, self.service, self.duration, fx, fy = fields[20:27]
+        self.force = (fx, fy)
+        self.lists = (x, y, marks)
+        self.n, self.xy = len(x), list(zip(x, y))
+
+    def test_known(self):
+        if self.version not in self.known:
+            raise Refused(2)
+
+    def test_lists(self):
+        x, y, _ = self.lists
+        if len(x) != len(y):
+            raise Refused(7)
+
+    def test_room(self):
+        if self.room < self.record_length():
+            raise Refused(13)
+
+    def record_length(self):
+        return 78 + 8 * self.n
+
+    def number(self, n, width):
+        """n in width bytes, two's complement"""
+        return (n % 256 ** width).to_bytes(width, self.byteorder)
+
+    def part(self, kind):
+        u8, i32 = (lambda n: self.number(n, 1)), (lambda n: self.number(n, 4))
+        if kind == 1:
+            out = u8(self.p)
+            for m in self.members:
+                out += u8(self.cls[m]) + u8(self.grain[m]) + self.number(self.t[m], 2)
+                out += b"".join(i32(z) for z in self.outline[m])
+        elif kind == 2:
+            out = u8(self.d) + u8(self.steel)
+        elif kind == 3:
+            out = u8(self.n) + b"".join(i32(z) for xy in self.xy for z in xy)
+        else:
+            out = u8(self.service) + u8(self.duration) + b"".join(i32(z) for z in self.force)
+        return u8(kind) + out
+
+    def pair_of(self, offset, length):
+        return self.number(offset, 2) + self.number(length, 2)
+
+    def record(self):
+        parts = [self.part(kind) for kind in self.kind_order]
+        head = self.number(self.version, 2) + self.number(len(parts), 2)
+        at = 20
+        for part in parts:
+            head += self.pair_of(at, len(part))
+            at += len(part)
+        return head + b"".join(parts)
+
+    # ---- reading values
+
+    def read_values(self, data, fields, x, y, marks, answer):
+        """The code; the lists are changed in place."""
+        if self.short("fields", fields) or self.short("answer", answer) \
+                or any(self.short("positions", z) for z in (x, y, marks)):
+            return 1
+        try:
+            self.read(data)
+        except Refused as r:
+            self.refuse_read(r.place[0], fields, x, y, marks, answer)
+            return 0
+        fields[:27] = self.handed_back()
+        for k in range(64):
+            x[k], y[k] = self.xy[k] if k < self.n else self.past(k)
+            marks[k] = self.mark(k)
+        answer[0], answer[1] = 0, self.n
+        return 0
+
+    def handed_back(self):
+        out = [self.u16(0), self.p]
+        for m in self.members:
+            out += [self.cls[m], self.grain[m], *self.no_field(), self.t[m], *self.outline[m]]
+        return out + [self.d, self.steel, self.no_field()[0], self.service, self.duration, *self.force]
+
+    def no_field(self):
+        return 0, 0
+
+    def past(self, k):
+        """x and y past the last dowel"""
+        return 0, 0
+
+    def mark(self, k):
+        return 0
+
+    def refuse_read(self, number, fields, x, y, marks, answer):
+        fields[:27] = [0] * 27
+        for z in (x, y, marks):
+            z[:64] = [0] * 64
+        answer[0], answer[1] = number, 0
 
     # ---- axes and angles
 

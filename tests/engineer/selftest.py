@@ -1,5 +1,5 @@
 """Tests of the engineer itself: against the figures that document 01 prints, a joint of D30 worked out by the formulas, and
-against their sentences taken literally with fractions.
+against their sentences taken literally with fractions; of its writer against 02's sentences on A2.
 
   selftest.py [--count N] [--seed S]     with N records made by chance
 """
@@ -7,9 +7,13 @@ import argparse
 from fractions import Fraction
 from math import isqrt
 from random import Random
+import struct
 
 import engineer
+import judge
 import records
+import values
+import written
 
 DIGITS = 60
 
@@ -221,6 +225,68 @@ def literal(seed, count):
     return spaced, accepted
 
 
+def packed(fields, x, y):
+    """A version 1 record, each part by its format."""
+    n = len(x)
+    _, p, *members, d, steel, _, service, duration, fx, fy = fields[:27]
+    out = struct.pack("<10H", 1, 4, 20, 42, 62, 3, 65, 2 + 8 * n, 67 + 8 * n, 11) + struct.pack("<BB", 1, p)
+    for at in (0, 9):
+        cls, grain, _, _, t, x0, y0, x1, y1 = members[at:at + 9]
+        out += struct.pack("<BBHiiii", cls, grain, t, x0, y0, x1, y1)
+    out += struct.pack("<BBB", 2, d, steel) + struct.pack("<BB", 3, n)
+    out += b"".join(struct.pack("<ii", *xy) for xy in zip(x, y))
+    return out + struct.pack("<BBBii", 4, service, duration, fx, fy)
+
+
+def first_fault(fields, x, y, room):
+    """02's A2 sentence by sentence."""
+    fits = [limit is None or limit[0] <= z <= limit[1] for z, limit in zip(fields, values.LIMITS)]
+    places = [-100000 <= z <= 100000 for z in x + y]
+    tests = (
+        (2, not fits[0]),
+        (7, len(x) != len(y) or not 1 <= len(x) <= 64 or not all(fits[1:]) or not all(places)),
+        (8, any(fields[at] >= fields[at + 2] for at in (7, 8, 16, 17))),
+        (9, fields[25:27] == [0, 0]),
+        (13, room < 78 + 8 * len(x)),
+    )
+    return next((number for number, holds in tests if holds), 0)
+
+
+# joint B with places of fields changed, the lengths of x and y, the room: the number
+WRITTEN = (
+    ({}, 4, 4, 110, 0), ({}, 4, 4, 109, 13), ({}, 4, 4, 0, 13), ({}, 64, 64, 590, 0), ({}, 64, 64, 589, 13),
+    ({}, 65, 65, 4096, 7), ({}, 0, 0, 110, 7), ({}, 3, 4, 110, 7), ({}, 4, 3, 110, 7),
+    ({25: 0}, 4, 4, 20, 9), ({7: 20000}, 3, 4, 110, 7), ({7: 20000}, 4, 4, 0, 8), ({7: 20000, 25: 0}, 4, 4, 110, 8),
+    ({0: 9, 2: 0}, 4, 4, 110, 2), ({0: -1}, 4, 4, 110, 2), ({0: 65537}, 4, 4, 110, 2), ({0: 0}, 0, 1, 0, 2),
+    ({2: 257}, 4, 4, 110, 7), ({11: -1}, 4, 4, 110, 7), ({2: 11}, 4, 4, 110, 0), ({2: 12}, 4, 4, 110, 7),
+    ({4: 5, 5: -7, 13: 2 ** 31 - 1, 14: -2 ** 31, 22: 300}, 4, 4, 110, 0),
+)
+
+
+def writing(seed, count):
+    """The writer and the reader of values: joint B, the numbers above, then values by the literal text, and model.py's."""
+    b = records.write(records.joint_b())
+    number, n, fields, x, y, marks = engineer.values_of(b)
+    assert (number, n, marks) == (0, 4, [0] * 64) and packed(fields, x[:n], y[:n]) == b
+    for change, nx, ny, room, want in WRITTEN:
+        f = [change.get(at, z) for at, z in enumerate(fields)]
+        got, record = engineer.written(f, x[:nx] + [1] * (nx - 64), y[:ny] + [1] * (ny - 64), room)
+        assert got == want and len(record) == (78 + 8 * nx if want == 0 else 0), (change, nx, ny, room, got)
+    stand_in, written_ones = judge.StandIn(), 0
+    for n, (label, h) in enumerate(values.stream(seed, count)):
+        code, buffer, answer = engineer.after_write(*h)
+        if code:
+            assert (len(h.fields) < 27 or len(h.answer) < 2) and (buffer, answer) == (h.buffer, h.answer), (n, label)
+            continue
+        number = first_fault(h.fields, h.x, h.y, len(h.buffer))
+        record = b"" if number else packed(h.fields, h.x, h.y)
+        written_ones += number == 0
+        assert answer == [number, len(record)] + h.answer[2:], (n, label)
+        assert buffer == record + h.buffer[len(record):], (n, label)
+        assert written.check_write(stand_in, h) is True, (n, label)
+    return written_ones
+
+
 def main():
     p = argparse.ArgumentParser(description=__doc__)
     p.add_argument("--count", type=int, default=1000)
@@ -232,6 +298,8 @@ def main():
     spaced, accepted = literal(a.seed, a.count)
     print("printed figures and ties right; %d spacings and %d joints as the literal text has them"
           % (spaced, accepted))
+    systematic = sum(1 for _ in values.systematic())
+    print("%d records written as the literal text has them" % writing(a.seed, systematic + a.count))
 
 
 if __name__ == "__main__":

@@ -1,9 +1,10 @@
-"""Wrong programs: model.py with one thing changed in each.  The harness must report all."""
+"""Wrong programs, and wrong writers and readers: model.py with one thing changed in each.  The harness must report all."""
 from math import atan2, cos, isqrt, sin      # floating point in wrong programs only
 
 from model import Model, Refused, ceil_div
 
 WRONG = []          # (group, name, class)
+WRONG_WRITERS = []  # the same, for the entries that write and read values
 
 
 def wrong(group, name):
@@ -803,3 +804,319 @@ changed(PRINT, "too long is 1", answer=lambda self, data: (_ for _ in ()).throw(
         if len(data) > 4096 else Model.answer(self, data))
 changed(PRINT, "too long only if nothing else", answer=lambda self, data: (
     Model.answer(self, data) if len(data) <= 4096 else (setattr(self, "most", 10 ** 9), Model.answer(self, data))[1]))
+
+# -------------------------------------------------------------------------- writing
+
+WRITE = "writing"
+
+
+def miswrites(name, group=WRITE, **methods):
+    WRONG_WRITERS.append((group, name, type("Wrong", (Model,), methods)))
+
+
+def retaken(change):
+    """The values handed over, changed before anything is tested."""
+    def take_handed(self, fields, x, y, marks):
+        Model.take_handed(self, *change(list(fields), list(x), list(y), list(marks)))
+    return take_handed
+
+
+def after(change):
+    """What is written, changed: change(buffer, length)."""
+    def fill(self, buffer, record):
+        Model.fill(self, buffer, record)
+        change(buffer, len(record))
+    return fill
+
+
+def rerecorded(change):
+    """The record's bytes, changed: change(self, bytearray)."""
+    def record(self):
+        out = bytearray(Model.record(self))
+        return bytes(change(self, out) or out)
+    return record
+
+
+def refusing(change):
+    def refuse_write(self, number, buffer, answer):
+        Model.refuse_write(self, number, buffer, answer)
+        change(self, number, buffer, answer)
+    return refuse_write
+
+
+def rewritten(change, refused=None):
+    """Whatever came: change(fields, x, y, marks, buffer, answer), where the number is 0 or is not."""
+    def write(self, *lent):
+        code = Model.write(self, *lent)
+        if code == 0 and refused in (None, lent[5][0] != 0):
+            change(*lent)
+        return code
+    return write
+
+
+def set_to(which, at, z):
+    return lambda *lent: lent[which].__setitem__(at, z) if len(lent[which]) > at else None
+
+
+def one_less(entry, which, need):
+    """The entry takes need - 1 numbers of a slice for enough."""
+    def call(self, *lent):
+        if len(lent[which]) != need - 1:
+            return entry(self, *lent)
+        longer = [z if k != which else list(z) + [0] for k, z in enumerate(lent)]
+        code = entry(self, *longer)
+        lent[which][:] = longer[which][:-1]
+        return code
+    return call
+
+
+def narrowed(places, bits):
+    """Numbers at these places taken by their low bits only."""
+    def change(fields, x, y, marks):
+        for at in places:
+            fields[at] = fields[at] % 2 ** bits
+        return fields, x, y, marks
+    return retaken(change)
+
+
+def moved(order):
+    """The writer's tests in another order, by name."""
+    return tuple("test_" + name for name in order.split())
+
+
+def wider(byteorder, width):
+    return lambda self, n, w: (n % 256 ** w).to_bytes(w, byteorder if w == width else "little")
+
+
+def exchange(a, b):
+    def change(fields, x, y, marks):
+        fields[a], fields[b] = fields[b], fields[a]
+        return fields, x, y, marks
+    return retaken(change)
+
+
+miswrites("refuses all, 7", writer_tests=("test_no",), test_no=lambda self: (_ for _ in ()).throw(Refused(7)))
+miswrites("refuses all that it could write, 13", record_length=lambda self: 10 ** 9)
+miswrites("four dowels at 0, 0 always", record=lambda self: Model.record(self)[:67] + bytes(32) + Model.record(self)[-11:])
+miswrites("writes nothing", fill=lambda self, buffer, record: None)
+miswrites("writes zeros", fill=lambda self, buffer, record: Model.fill(self, buffer, bytes(len(record))))
+miswrites("adds to what stood there", fill=lambda self, buffer, record: Model.fill(
+    self, buffer, bytes(a | b for a, b in zip(buffer, record))))
+miswrites("x and y exchanged", take_handed=retaken(lambda f, x, y, m: (f, y, x, m)))
+miswrites("all x, then all y", part=lambda self, kind: Model.part(self, kind) if kind != 3 else
+          bytes([3, self.n]) + b"".join(self.number(z, 4) for line in self.lists[:2] for z in line))
+miswrites("dowels reversed", take_handed=retaken(lambda f, x, y, m: (f, x[::-1], y[::-1], m)))
+miswrites("dowel 1 left as it was", part=lambda self, kind: Model.part(self, kind) if kind != 3 else
+          bytes([3, self.n]) + bytes(8) + Model.part(self, 3)[10:])
+miswrites("last dowel zeros", part=lambda self, kind: Model.part(self, kind) if kind != 3 else
+          Model.part(self, 3)[:-8] + bytes(8))
+miswrites("big-endian", number=lambda self, n, w: (n % 256 ** w).to_bytes(w, "big"))
+miswrites("big-endian, 16 bits only", number=wider("big", 2))
+miswrites("big-endian, 32 bits only", number=wider("big", 4))
+miswrites("big-endian both ways", byteorder="big")
+miswrites("sign lost", number=lambda self, n, w: abs(n).to_bytes(w, "little"))
+miswrites("sign and magnitude", number=lambda self, n, w: (abs(n) | (2 ** 31 if n < 0 else 0)).to_bytes(w, "little"))
+miswrites("sign lost in y0 of member 2", take_handed=retaken(lambda f, x, y, m: (f[:17] + [abs(f[17])] + f[18:], x, y, m)))
+miswrites("sign lost in x", take_handed=retaken(lambda f, x, y, m: (f, [abs(z) for z in x], y, m)))
+miswrites("sign lost in fy", take_handed=retaken(lambda f, x, y, m: (f[:26] + [abs(f[26])], x, y, m)))
+miswrites("low 16 bits of coordinates", number=lambda self, n, w: (n % 65536).to_bytes(w, "little") if w == 4 and n > 0
+          else Model.number(self, n, w))
+for _a, _b, _what in ((2, 11, "classes"), (3, 12, "grains"), (6, 15, "thicknesses"), (7, 9, "x0 and x1 of member 1"),
+                      (7, 8, "x0 and y0 of member 1"), (18, 19, "x1 and y1 of member 2"), (20, 21, "diameter and steel"),
+                      (23, 24, "service class and duration"), (25, 26, "fx and fy"), (1, 23, "planes and service class")):
+    miswrites("%s exchanged" % _what, take_handed=exchange(_a, _b))
+miswrites("members exchanged", take_handed=retaken(lambda f, x, y, m: (f[:2] + f[11:20] + f[2:11] + f[20:], x, y, m)))
+miswrites("member 1 twice", take_handed=retaken(lambda f, x, y, m: (f[:11] + f[2:11] + f[20:], x, y, m)))
+for _order in ((2, 1, 3, 4), (4, 3, 2, 1), (1, 2, 4, 3), (1, 3, 2, 4)):
+    miswrites("parts in the order %s" % (_order,), kind_order=_order)
+miswrites("pairs in another order than the parts", pair_of=lambda self, at, n: Model.pair_of(
+    self, *{20: (62, 3), 62: (20, 42)}.get(at, (at, n))))
+miswrites("offsets from the first part", pair_of=lambda self, at, n: Model.pair_of(self, at - 20, n))
+miswrites("ends for lengths", pair_of=lambda self, at, n: Model.pair_of(self, at, at + n))
+miswrites("lengths for offsets", pair_of=lambda self, at, n: Model.pair_of(self, n, at))
+miswrites("lengths in one byte", pair_of=lambda self, at, n: Model.pair_of(self, at, n & 255))
+miswrites("offsets in one byte", pair_of=lambda self, at, n: Model.pair_of(self, at & 255, n))
+miswrites("version 2 written", record=rerecorded(lambda self, out: out.__setitem__(0, 2)))
+miswrites("number of pairs 3", record=rerecorded(lambda self, out: out.__setitem__(2, 3)))
+miswrites("N one off", record=rerecorded(lambda self, out: out.__setitem__(66, self.n - 1)))
+miswrites("N always 4", record=rerecorded(lambda self, out: out.__setitem__(66, 4)))
+miswrites("grain always 0", record=rerecorded(lambda self, out: out.__setitem__(43, 0)))
+miswrites("64 places always", record=rerecorded(lambda self, out: out + bytes(8 * (64 - self.n))))
+miswrites("last byte left out", record=rerecorded(lambda self, out: out[:-1]))
+
+LEFT = "what stays"
+miswrites("a byte past the length cleared", LEFT, fill=after(
+    lambda buffer, n: buffer.__setitem__(n, 0) if len(buffer) > n else None))
+miswrites("the last byte of the buffer cleared", LEFT, fill=after(
+    lambda buffer, n: buffer.__setitem__(-1, 0) if len(buffer) > n + 5 else None))
+miswrites("the rest of the buffer cleared", LEFT, fill=after(
+    lambda buffer, n: buffer.__setitem__(slice(n, None), bytes(len(buffer) - n))))
+for _number in (2, 7, 8, 9, 13):
+    miswrites("buffer changed on refusal %d" % _number, LEFT, refuse_write=refusing(
+        lambda self, n, buffer, answer, k=_number: buffer.__setitem__(0, buffer[0] ^ 1) if n == k and buffer else None))
+    miswrites("length not 0 on refusal %d" % _number, LEFT, refuse_write=refusing(
+        lambda self, n, buffer, answer, k=_number: answer.__setitem__(1, self.record_length()) if n == k else None))
+miswrites("as much as fits written on refusal 13", LEFT, refuse_write=refusing(
+    lambda self, n, buffer, answer: Model.fill(self, buffer, Model.record(self)[:len(buffer)]) if n == 13 else None))
+miswrites("buffer cleared on every refusal", LEFT, refuse_write=refusing(
+    lambda self, n, buffer, answer: buffer.__setitem__(slice(None), bytes(len(buffer)))))
+miswrites("length left as it was on a refusal", LEFT, refuse_write=lambda self, n, buffer, answer: answer.__setitem__(0, n))
+miswrites("the length of the buffer answered", LEFT, write=rewritten(
+    lambda f, x, y, m, buffer, answer: answer.__setitem__(1, len(buffer)), False))
+miswrites("length one off", LEFT, write=rewritten(
+    lambda f, x, y, m, buffer, answer: answer.__setitem__(1, answer[1] + 1), False))
+miswrites("answers exchanged", LEFT, write=rewritten(
+    lambda f, x, y, m, buffer, answer: answer.__setitem__(slice(0, 2), answer[1::-1])))
+miswrites("a third answer cleared", LEFT, write=rewritten(set_to(5, 2, 0)))
+miswrites("a field cleared", LEFT, write=rewritten(set_to(0, 3, 7)))
+miswrites("a mark cleared", LEFT, write=rewritten(set_to(3, 0, 7)))
+miswrites("1 number of answer enough", LEFT, write=one_less(Model.write, 5, 2))
+miswrites("26 fields enough", LEFT, write=one_less(Model.write, 0, 27))
+miswrites("3 numbers of answer asked", LEFT, needs=dict(Model.needs, answer=3))
+miswrites("28 fields asked", LEFT, needs=dict(Model.needs, fields=28))
+miswrites("code 0 on a short slice", LEFT, write=lambda self, *lent: Model.write(self, *lent) and 0)
+miswrites("code 1 on a refusal", LEFT, write=lambda self, *lent: Model.write(self, *lent) or int(lent[5][0] != 0))
+miswrites("answer cleared where a slice is short", LEFT, write=lambda self, *lent: Model.write(self, *lent)
+          and (lent[5].__setitem__(slice(0, 2), [0] * len(lent[5][:2])), 1)[1])
+
+TESTS = "writer's tests"
+miswrites("version not tested", TESTS, known=range(-2 ** 31, 2 ** 31))
+miswrites("version 0 known", TESTS, known=(0, 1))
+miswrites("version 2 known", TESTS, known=(1, 2))
+miswrites("version by its low byte", TESTS, take_handed=narrowed((0,), 8))
+miswrites("version by its low 16 bits", TESTS, take_handed=narrowed((0,), 16))
+miswrites("version's sign lost", TESTS, take_handed=retaken(lambda f, x, y, m: ([abs(f[0])] + f[1:], x, y, m)))
+miswrites("unknown version is 7", TESTS, test_known=lambda self: (_ for _ in ()).throw(Refused(7))
+          if self.version != 1 else None)
+for _at, _bits, _what in ((1, 8, "planes"), (2, 8, "class 1"), (3, 8, "grain 1"), (6, 16, "thickness 1"),
+                          (11, 8, "class 2"), (12, 8, "grain 2"), (15, 16, "thickness 2"), (20, 8, "diameter"),
+                          (21, 8, "steel"), (23, 8, "service class"), (24, 8, "duration")):
+    miswrites("%s taken modulo %d" % (_what, 2 ** _bits), TESTS, take_handed=narrowed((_at,), _bits))
+    miswrites("sign of %s lost" % _what, TESTS, take_handed=retaken(
+        lambda f, x, y, m, at=_at: (f[:at] + [abs(f[at])] + f[at + 1:], x, y, m)))
+for _at in (1, 2, 3, *range(6, 11), 11, 12, *range(15, 20), 20, 21, 23, 24, 25, 26):
+    _inside = {1: 1, 2: 1, 3: 0, 6: 200, 11: 1, 12: 0, 15: 200, 20: 6, 21: 1, 23: 1, 24: 1}.get(_at)
+    miswrites("place %d not tested" % _at, TESTS, take_handed=(
+        narrowed((_at,), 1) if _at == 3 or _at == 12 else retaken(lambda f, x, y, m, at=_at, z=_inside: (
+            f[:at] + [z if z is not None else max(-100000, min(100000, f[at]))] + f[at + 1:], x, y, m))))
+for _field, (_low, _high) in Model.limits.items():
+    for _side, _by in ((0, -1), (0, 1), (1, -1), (1, 1)):
+        _limit = [_low, _high]
+        _limit[_side] += _by
+        miswrites("%s from %d to %d" % (_field, *_limit), "writer's limits",
+                  limits=dict(Model.limits, **{_field: tuple(_limit)}))
+miswrites("lists of unequal length cut to the shorter", TESTS, test_lists=lambda self: setattr(self, "n", len(self.xy)))
+miswrites("y longer than x passes", TESTS, test_lists=lambda self: (_ for _ in ()).throw(Refused(7))
+          if len(self.lists[1]) < self.n else None)
+miswrites("lists of unequal length are 13", TESTS, test_lists=lambda self: (_ for _ in ()).throw(Refused(13))
+          if len(self.lists[1]) != self.n else None)
+miswrites("number of dowels modulo 256", TESTS, take_handed=lambda self, f, x, y, m: (
+    Model.take_handed(self, f, x, y, m), setattr(self, "n", len(x) % 256), setattr(self, "xy", self.xy[:self.n]))[0])
+miswrites("65 dowels cut to 64", TESTS, take_handed=retaken(lambda f, x, y, m: (f, x[:64], y[:64], m)))
+miswrites("marks of unequal number are 7", TESTS, test_lists=lambda self: (_ for _ in ()).throw(Refused(7))
+          if len({len(z) for z in self.lists}) > 1 else None)
+miswrites("a mark other than 0 and 1 is 7", TESTS, test_lists=lambda self: Model.test_lists(self) or (
+    (_ for _ in ()).throw(Refused(7)) if set(self.lists[2]) - {0, 1} else None))
+for _at, _what in ((4, "gx"), (14, "gy of member 2"), (22, "plate")):
+    miswrites("%s looked at" % _what, TESTS, take_handed=lambda self, f, x, y, m, at=_at: (
+        Model.take_handed(self, f, x, y, m), setattr(self, "p", self.p if -1000 <= f[at] <= 1000 else 0))[0])
+miswrites("gx in the place of the grain", TESTS, take_handed=exchange(3, 4))
+miswrites("direction 0, 0 refused by 21", TESTS, test_force=lambda self: Model.test_force(self) or (
+    _ for _ in ()).throw(Refused(21)))
+miswrites("spacing tested as well", TESTS, writer_tests=Model.writer_tests[:-1] + ("test_spacing", "test_room"),
+          test_spacing=lambda self: [getattr(self, t)(m) for m in (0, 1) for t in self.spacing_tests] and None)
+for _name, _order in (
+        ("7 before 2", "lists fields known outlines force room"), ("13 first", "room known lists fields outlines force"),
+        ("2 last", "lists fields outlines force room known"),
+        ("8 before 7", "known lists outlines fields force room"), ("8 before 7, the lists too", "known outlines lists fields force room"),
+        ("9 before 7", "known force lists fields outlines room"), ("9 before 8", "known lists fields force outlines room"),
+        ("13 before 9", "known lists fields outlines room force"), ("13 before 8", "known lists fields room outlines force"),
+        ("13 before 7", "known room lists fields outlines force"),
+        ("lists after 8", "known fields outlines lists force room"), ("lists after 9", "known fields outlines force lists room"),
+        ("lists after 13", "known fields outlines force room lists"), ("lists not tested", "known fields outlines force room"),
+        ("7 not tested", "known lists outlines force room"), ("8 not tested", "known lists fields force room"),
+        ("9 not tested", "known lists fields outlines room"), ("13 not tested", "known lists fields outlines force")):
+    miswrites(_name, TESTS, writer_tests=moved(_order))
+for _by, _what in ((1, "one byte more asked"), (-1, "one byte less asked"), (8, "a place more asked"), (-8, "a place less asked")):
+    miswrites(_what, TESTS, record_length=lambda self, by=_by: Model.record_length(self) + by)
+miswrites("590 bytes asked always", TESTS, record_length=lambda self: 590)
+
+# -------------------------------------------------------------------- reading values
+
+VALUES = "reading values"
+
+
+def rehanded(change):
+    """The numbers read, changed: change(list of 27)."""
+    def handed_back(self):
+        out = Model.handed_back(self)
+        return change(out) or out
+    return handed_back
+
+
+def reread(change, refused=None):
+    """Whatever came: change(fields, x, y, marks, answer), where the number is 0 or is not."""
+    def read_values(self, data, *lent):
+        code = Model.read_values(self, data, *lent)
+        if code == 0 and refused in (None, lent[4][0] != 0):
+            change(*lent)
+        return code
+    return read_values
+
+
+def unread(name, **methods):
+    miswrites(name, VALUES, **methods)
+
+
+unread("x and y exchanged", read_values=lambda self, data, f, x, y, m, a: Model.read_values(self, data, f, y, x, m, a))
+unread("x and marks exchanged", read_values=lambda self, data, f, x, y, m, a: Model.read_values(self, data, f, m, y, x, a))
+unread("past the last dowel: -1", past=lambda self, k: (-1, -1))
+unread("past the last dowel: the last again", past=lambda self, k: self.xy[-1])
+unread("place 64 left as it was", read_values=lambda self, data, *lent: (lambda old: (
+    Model.read_values(self, data, *lent), lent[1].__setitem__(63, old) if old is not None else None)[0])(
+        lent[1][63] if len(lent[1]) > 63 else None))
+unread("marks 1", mark=lambda self, k: 1 if k < self.n else 0)
+unread("marks left as they were", read_values=lambda self, data, f, x, y, m, a: (
+    Model.read_values(self, data, f, x, y, list(m), a)))
+unread("gx and gy from the grain", handed_back=rehanded(lambda z: z.__setitem__(4, 1 - z[3])))
+unread("plate -1", handed_back=rehanded(lambda z: z.__setitem__(22, -1)))
+unread("version 0", handed_back=rehanded(lambda z: z.__setitem__(0, 0)))
+for _a, _b, _what in ((2, 11, "classes"), (3, 12, "grains"), (6, 15, "thicknesses"), (7, 8, "x0 and y0 of member 1"),
+                      (18, 19, "x1 and y1 of member 2"), (20, 21, "diameter and steel"), (21, 22, "steel and plate"),
+                      (23, 24, "service class and duration"), (25, 26, "fx and fy")):
+    unread("%s exchanged" % _what, handed_back=rehanded(
+        lambda z, a=_a, b=_b: z[:a] + [z[b]] + z[a + 1:b] + [z[a]] + z[b + 1:]))
+unread("members exchanged", handed_back=rehanded(lambda z: z[:2] + z[11:20] + z[2:11] + z[20:]))
+unread("32 bits unsigned", i32=lambda self, at: int.from_bytes(self.data[at:at + 4], "little"))
+unread("big-endian, thickness only",
+       u16=lambda self, at: int.from_bytes(self.data[at:at + 2], "big" if at >= 20 else "little"))
+unread("number of dowels one off", read_values=reread(lambda f, x, y, m, a: a.__setitem__(1, a[1] + 1), False))
+unread("number of dowels always 64", read_values=reread(lambda f, x, y, m, a: a.__setitem__(1, 64), False))
+unread("answers exchanged", read_values=reread(lambda f, x, y, m, a: a.__setitem__(slice(0, 2), a[1::-1])))
+unread("number of dowels on a refusal", read_values=reread(lambda f, x, y, m, a: a.__setitem__(1, 1), True))
+unread("fields left as they were on a refusal", refuse_read=lambda self, n, f, x, y, m, a: (
+    Model.refuse_read(self, n, list(f), x, y, m, a)))
+unread("x left as it was on a refusal", refuse_read=lambda self, n, f, x, y, m, a: (
+    Model.refuse_read(self, n, f, list(x), y, m, a)))
+unread("y left as it was on a refusal", refuse_read=lambda self, n, f, x, y, m, a: (
+    Model.refuse_read(self, n, f, x, list(y), m, a)))
+unread("marks left as they were on a refusal", refuse_read=lambda self, n, f, x, y, m, a: (
+    Model.refuse_read(self, n, f, x, y, list(m), a)))
+unread("values shown on refusals 7 to 9", refuse_read=lambda self, n, f, x, y, m, a: (
+    Model.refuse_read(self, n, f, x, y, m, a), f.__setitem__(slice(0, 27), self.handed_back()) if n > 6 else None)[0])
+for _which, _at, _what in ((0, 27, "fields"), (1, 64, "x"), (2, 64, "y"), (3, 64, "marks"), (4, 2, "answer")):
+    unread("a number past the places of %s cleared" % _what, read_values=reread(set_to(_which, _at, 0)))
+    unread("one number less of %s enough" % _what, read_values=one_less(Model.read_values, _which + 1, _at))
+    unread("one number more of %s asked" % _what, read_values=lambda self, data, *lent, k=_which, n=_at: (
+        1 if len(lent[k]) == n else Model.read_values(self, data, *lent)))
+unread("spacing tested as well", read=lambda self, data: (Model.read(self, data), [
+    getattr(self, t)(m) for m in (0, 1) for t in self.spacing_tests])[0])
+unread("4,096 bytes at most", read=lambda self, data: Model.read(self, data) if len(data) <= 4096
+       else (_ for _ in ()).throw(Refused(4)))
+unread("code 1 on a refusal", read_values=lambda self, data, *lent: Model.read_values(self, data, *lent)
+       or int(lent[4][0] != 0))
+unread("8 before 7", value_tests=("test_outlines", "test_fields", "test_force"))
+unread("9 before 8", value_tests=("test_fields", "test_force", "test_outlines"))
+unread("kinds in fixed order only", test_kinds=lambda self: (_ for _ in ()).throw(Refused(5))
+       if [self.data[o] for o, _ in self.pairs] != [1, 2, 3, 4] else None)
+unread("version not tested", test_version=lambda self: None)

@@ -1,18 +1,17 @@
-/* Calls negwishal_judge through include/negwishal.h and looks at every field.
+/* Calls negwishal_judge through include/negwishal.h and looks at every field; then the tests of the other entries.
  * check JOINT-B DOWELS-599 MEMBER-1-EDGE-719 */
 #include <inttypes.h>
 #include <stdio.h>
 #include <string.h>
 
-#include "negwishal.h"
+#include "check.h"
 
 #define ROOM 12
-#define LEFT UINT64_C(0xa5a5a5a5a5a5a5a5)
 
 static int faults = 0;
 static int tests = 0;
 
-static void expect(const char *what, uint64_t got, uint64_t low, uint64_t high)
+void expect(const char *what, uint64_t got, uint64_t low, uint64_t high)
 {
     tests++;
     if (got < low || got > high) {
@@ -123,6 +122,9 @@ int main(int argc, char **argv)
         expect("what an unknown class returns", judged(b, nb, report, 8), 0, 0);
         fields("the unknown class", report, unknown, unknown);
     }
+
+    check_write(kept, nb);
+    check_read(kept, nb, c, nc);
 
     printf("header: %d tests, %d faults\n", tests, faults);
     return faults != 0;

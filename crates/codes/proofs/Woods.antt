@@ -1,10 +1,11 @@
--- What the figures need of a wood that the table has, whatever its codes: a density from 290 to 1,100, and k90 from 990 to 1,800.
+-- What is needed of a wood that the table has, whatever its codes: a code of one byte, a density from 290 to 1,100, and k90 from 990 to
+-- 1,800.
 use Prim.Native.Nat.{ℕ, _≤_}
-use mathlib.Core.Path.{_≡_, refl}
+use mathlib.Core.Path.{_≡_, refl, ap, _∙_}
 use mathlib.Core.Bool.{Bool, true, false, cond, _&&_, and-eq-true-iff, false≢true}
 use mathlib.Core.List.{List, [], _∷_}
 use native.Mathlib.Omega.{arith}
-use borrow.Author.Tests.{leb-true}
+use borrow.Author.Tests.{leb-true, eqb-true}
 use lib.Dec.{leb, eqb}
 use Rattle.codes.specs.declared.Kind.{Kind}
 use Rattle.codes.specs.declared.Kind.the-variants.{Softwood, Hardwood}
@@ -30,6 +31,29 @@ lookup-passes test none (l ∷ ls) n h c =
     go : (b : Bool) → test (l .entry) ≡ true → test (lookup none ls c) ≡ true → test (cond b (l .entry) (lookup none ls c)) ≡ true
     go true here later = here
     go false here later = later
+
+-- a code that a table has is one of its lines'
+codesPass : {A : Type 0} → (ℕ → Bool) → List (Line A) → Bool
+codesPass test [] = true
+codesPass test (l ∷ ls) = test (l .code) && codesPass test ls
+
+code-passes : (test : ℕ → Bool) (ls : List (Line Class)) → codesPass test ls ≡ true → (c : ℕ) → isKnown (lookup Unknown ls c) ≡ true → test c ≡ true
+unfolding codesPass
+code-passes test [] h c k = absurd (false≢true k)
+code-passes test (l ∷ ls) h c k =
+    let parts = and-eq-true-iff (test (l .code)) (codesPass test ls) .0 h in
+    go (eqb c (l .code)) refl (parts .0) (code-passes test ls (parts .1) c) k
+  where
+    go :
+        (b : Bool) → eqb c (l .code) ≡ b → test (l .code) ≡ true → (isKnown (lookup Unknown ls c) ≡ true → test c ≡ true) →
+        isKnown (cond b (l .entry) (lookup Unknown ls c)) ≡ true → test c ≡ true
+    go true e here later k = ap test (eqb-true c (l .code) e) ∙ here
+    go false e here later k = later k
+
+-- a class fits its byte
+pub class-byte : (code : ℕ) → isClass code ≡ true → code ≤ 255
+unfolding classOf printedClasses codesPass
+class-byte code k = leb-true code 255 (code-passes (λ c. leb c 255) printedClasses refl code k)
 
 densityTest : Class → Bool
 densityTest (Known w) = leb 290 (w .density) && leb (w .density) 1100

@@ -1,4 +1,4 @@
--- The tables of 01 and of 02's A1: what a code stands for. A class that the table lacks is `Unknown`, another code `Unlisted`.
+-- The tables of 01 and of 02's A1: what a code stands for, and which versions there are. A class that the table lacks is `Unknown`, another code `Unlisted`.
 use Prim.Native.Nat.{ℕ, _+_, _*_}
 use mathlib.Core.Bool.{Bool, true, false, cond}
 use mathlib.Core.List.{List, [], _∷_}
@@ -10,6 +10,10 @@ use Rattle.codes.specs.declared.Class.{Class}
 use Rattle.codes.specs.declared.Class.the-variants.{Known, Unknown}
 use Rattle.codes.specs.declared.Listed.{Listed}
 use Rattle.codes.specs.declared.Listed.the-variants.{Value, Unlisted}
+
+-- 01, '2 version not 1': the versions of records that are known
+abbrev pub isVersion : ℕ → Bool
+isVersion n = eqb n 1
 
 -- a line of a table: a code, and what stands there
 pub record Line (A : Type 0) : Type 0 where

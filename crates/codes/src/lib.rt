@@ -1,6 +1,8 @@
-// What a code of the record stands for: the wood of a class, the strength of a steel, kmod; and k90 of a kind of wood.
+// What a code of the record stands for: the wood of a class, the strength of a steel, kmod; k90 of a kind of wood; which versions are
+// known.
 ghost use mathlib.Core.Path.{_≡_};
 ghost use Rattle.codes.specs.Tables.{
+  isVersion,
   softwood,
   hardwood,
   classOf,
@@ -11,6 +13,15 @@ ghost use Rattle.codes.specs.Tables.{
   listed,
   k90Of,
 };
+
+const VERSION: u16 = 1;
+
+// Whether records of this version are known.
+pub fn is_version(n: u16) -> bool
+    ensures { λ r. ⌜ r ≡ isVersion n ⌝ }
+{
+    n == VERSION
+}
 
 // Kind of wood: k90 depends on it.
 pub enum Kind {

@@ -11,8 +11,9 @@ use lib.ListN.{length, getD, take, drop, replicate, length-drop}
 use lib.Seq.{length-take-le, getD-take, getD-drop}
 use mir.Syntax.{w32}
 use mir.Val.{SFits, ofZ}
-use borrow.Author.Tests.{lt-ltb, le-ltb, eq-eqb, ne-eqb, eqb-true, not-false}
+use borrow.Author.Tests.{lt-ltb, le-ltb, ltb-false, eq-eqb, ne-eqb, eqb-true, not-false}
 use Rattle.numbers.specs.Numbers.{u8At, u16At}
+use Rattle.codes.specs.Tables.{isVersion}
 use Rattle.chain.specs.declared.Width.the-variants.{Two}
 use Rattle.chain.specs.Chain.{numberAt, offsetOf, lengthOf, bound, chained, Read}
 use Rattle.chain.proofs.Laws.{filled-at, follow, inside}
@@ -22,7 +23,8 @@ use Rattle.joint.specs.Refusal.{refusal1, refusal2, refusal3, refusal4, 
 use Rattle.joint.specs.Refusal.{between, memberWithin, membersWithin, dowelWithin, positionsWithin, loadsWithin, fieldsWithin}
 use Rattle.joint.specs.Refusal.{outlineEmpty, emptyOutlines, noForce}
 use Rattle.joint.specs.Stage.{Parted, Bounded, present, partAt, found, partTests, partsOf, layout, layoutNumber, Stretch, LaidOut}
-use Rattle.joint.specs.Stage.{stage, stageNumber, valueTests}
+use Rattle.joint.specs.Stage.{stage, stageNumber}
+use Rattle.joint.specs.Refusal.{valueTests}
 use Rattle.joint.specs.declared.Members.{Members}
 use Rattle.joint.specs.declared.Dowel.{Dowel}
 use Rattle.joint.specs.declared.Positions.{Positions}
@@ -34,7 +36,7 @@ use Rattle.joint.specs.declared.layout.Part.{Part}
 use Rattle.joint.specs.declared.layout.Parts.{Parts}
 use Rattle.joint.specs.declared.layout.Layout.{Layout}
 use Rattle.joint.specs.declared.layout.Layout.the-variants.{Laid, Refused as LayoutRefused}
-use Rattle.joint.proofs.Holding.{none-holds}
+use Rattle.joint.proofs.Holding.{numbered, no-number}
 use Rattle.joint.proofs.Tests.{equal, unequal, zero-bits}
 
 -- ---- the number behind an answer
@@ -177,7 +179,7 @@ none-of false false true d h = absurd (false≢true (sym h))
 none-of false false false d h = (refl, refl, refl, h)
 
 -- a part is of one kind at most
-one-kind : (x : ℕ) → oneIf (eqb x 1) + oneIf (eqb x 2) + oneIf (eqb x 3) + oneIf (eqb x 4) ≤ 1
+pub one-kind : (x : ℕ) → oneIf (eqb x 1) + oneIf (eqb x 2) + oneIf (eqb x 3) + oneIf (eqb x 4) ≤ 1
 unfolding oneIf
 one-kind zero = lit≤ tt
 one-kind (suc zero) = lit≤ tt
@@ -239,7 +241,7 @@ module _ {s : List ℕ} (h : Parted s) (kind : ℕ) where
   unfolding partAt partOfPair
   stretch = record { inside = pair-in (λ k. pairSum s k ≤ length s) (h .inside) s kind; bytes = refl }
 
-  part-length : length (partOfKind s kind) ≡ pairLength s (pairOfKind s kind)
+  pub part-length : length (partOfKind s kind) ≡ pairLength s (pairOfKind s kind)
   unfolding partOfPair partAt
   part-length =
       let i = stretch .inside in
@@ -269,7 +271,7 @@ pub record Looked (s : List ℕ) (p1 p2 p3 p4 : Part) : Type 0 where
 
 module _ {s : List ℕ} {p1 p2 p3 p4 : Part} (a : Looked s p1 p2 p3 p4) where
   abbrev partsAnswer : Layout
-  partsAnswer = layout (firstHolding 5 (partTests s)) (partsOf s)
+  partsAnswer = layout (firstHolding (partTests s)) (partsOf s)
 
   abbrev missingOne : Bool
   missingOne = eqb (p1 .bytes) 0 || eqb (p2 .bytes) 0 || eqb (p3 .bytes) 0 || eqb (p4 .bytes) 0
@@ -323,7 +325,7 @@ module _ {s : List ℕ} {p1 p2 p3 p4 : Part} (a : Looked s p1 p2 p3 p4) where
 -- ---- refusals 1 to 6, one after the other
 module _ (s : List ℕ) where
   abbrev answer : Layout
-  answer = layout (firstHolding 1 (scriptTests s)) (partsOf s)
+  answer = layout (firstHolding (scriptTests s)) (partsOf s)
 
   pub too-short : length s < 20 → LayoutRefused 1 ≡ answer
   unfolding refusal1 firstHolding layout
@@ -335,34 +337,38 @@ module _ (s : List ℕ) where
     pub two : refusal2 s ≡ false
     pub three : refusal3 s ≡ false
 
-  module _ (l : 20 ≤ length s) {n : ℕ} (v : n ≡ version s) where
-    pub wrong-version : (n ≡ 1 → ⊥) → LayoutRefused 2 ≡ answer
-    unfolding refusal1 refusal2 firstHolding layout
-    wrong-version h = simp (le-ltb (length s) 20 l, unequal v h)
+  module _ (l : 20 ≤ length s) {n : ℕ} (v : n ≡ version s) {q : Bool} (k : q ≡ isVersion n) where
+    two-is : refusal2 s ≡ not q
+    unfolding refusal2
+    two-is = ap (λ (z : ℕ). not (isVersion z)) (sym v) ∙ ap not (sym k)
 
-    module _ (v1 : n ≡ 1) {m : ℕ} (w : m ≡ pairCount s) where
+    pub wrong-version : not q ≡ true → LayoutRefused 2 ≡ answer
+    unfolding refusal1 firstHolding layout
+    wrong-version h = simp (le-ltb (length s) 20 l, two-is ∙ h)
+
+    module _ (v1 : not q ≡ false) {m : ℕ} (w : m ≡ pairCount s) where
       pub wrong-count : (m ≡ 4 → ⊥) → LayoutRefused 3 ≡ answer
-      unfolding refusal1 refusal2 refusal3 firstHolding layout
-      wrong-count h = simp (le-ltb (length s) 20 l, equal v v1, unequal w h)
+      unfolding refusal1 refusal3 firstHolding layout
+      wrong-count h = simp (le-ltb (length s) 20 l, two-is ∙ v1, unequal w h)
 
       pub header-right : m ≡ 4 → HeaderRight
-      unfolding refusal1 refusal2 refusal3
-      header-right h = record { one = le-ltb (length s) 20 l; two = simp (equal v v1); three = simp (equal w h) }
+      unfolding refusal1 refusal3
+      header-right h = record { one = le-ltb (length s) 20 l; two = two-is ∙ v1; three = simp (equal w h) }
 
   module _ (a : HeaderRight) {bounds : List ℕ} {b : Bool} (e : Read Two s 4 20 4 (replicate 5 0) bounds b) where
     pub pairs-broken : not b ≡ true → LayoutRefused 4 ≡ answer
     unfolding firstHolding layout
     pairs-broken h = simp (a .one, a .two, a .three, sym (four e) ∙ h)
 
-    pub pairs-right : not b ≡ false → layout (firstHolding 5 (partTests s)) (partsOf s) ≡ answer
+    pub pairs-right : not b ≡ false → layout (firstHolding (partTests s)) (partsOf s) ≡ answer
     unfolding firstHolding
     pairs-right h = simp (a .one, a .two, a .three, sym (four e) ∙ h)
 
   -- what is left for the reader of values
   pub laid-out : {r : Layout} {p : Parts} → r ≡ answer → r ≡ Laid p → LaidOut s p
-  unfolding refusal6 partsOf positionsLength
+  unfolding numbered refusal1 refusal6 partsOf positionsLength
   laid-out {r} {p} e h =
-      let n = none-holds 0 (scriptTests s) (laid-number _ _ e h) in
+      let n = no-number (scriptTests s) refl (laid-number _ _ e h) in
       let p = parted s (n .none 3) in
       let six : (eqb (length (partOfKind s 1)) 42 && eqb (length (partOfKind s 2)) 3
       && (leb 2 (length (partOfKind s 3)) && eqb (length (partOfKind s 3)) (2 + 8 * u8At (partOfKind s 3) 1))
@@ -371,6 +377,7 @@ module _ (s : List ℕ) where
       let t = simp and-eq-true-iff at six in
       rw (laid-parts _ _ e h)
       (record {
+        header = ltb-false _ _ (n .none 0);
         members = stretch p 1;
         dowel = stretch p 2;
         positions = stretch p 3;
@@ -390,19 +397,20 @@ pub positions-have : {s a : List ℕ} {p : Part} → Stretch s 3 p → a ≡ tak
     → length (partOfKind s 3) ≡ 2 + 8 * u8At (partOfKind s 3) 1 → length a ≡ 2 + 8 * u8At a 1
 positions-have h e l = rw (e ∙ h .bytes) l
 
-pub values-read : {s : List ℕ} {p : Parts} {a b c d : List ℕ} {m : Members} {w : Dowel} {n : Positions} {l : Loads} → LaidOut s p
+pub values-read : {s : List ℕ} {p : Parts} {a b c d : List ℕ} {k : ℕ} {m : Members} {w : Dowel} {n : Positions} {l : Loads} → LaidOut s p
+    → k ≡ version s
     → a ≡ take (p .members .bytes) (drop (p .members .start) s) → m ≡ membersIn a
     → b ≡ take (p .dowel .bytes) (drop (p .dowel .start) s) → w ≡ dowelIn b
     → c ≡ take (p .positions .bytes) (drop (p .positions .start) s) → n ≡ positionsIn c
     → d ≡ take (p .loads .bytes) (drop (p .loads .start) s) → l ≡ loadsIn d
-    → record { members = m; dowel = w; positions = n; loads = l } ≡ valuesOf s
+    → record { version = k; members = m; dowel = w; positions = n; loads = l } ≡ valuesOf s
 unfolding valuesOf
-values-read o a m b w c n d l = cc
+values-read o k a m b w c n d l = cc
 
 -- ---- refusals 7 to 9, one after the other
 module _ (v : Values) where
   abbrev tested : Stage
-  tested = stage (firstHolding 7 (valueTests v))
+  tested = stage (firstHolding (valueTests v))
 
   pub fields-test : {p m n d s q l : Bool} → p ≡ between 1 2 (v .members .planes) → m ≡ memberWithin (v .members .member1)
       → n ≡ memberWithin (v .members .member2) → d ≡ between 6 30 (v .dowel .diameter) → s ≡ between 1 3 (v .dowel .steel)

@@ -27,7 +27,7 @@ use Rattle.joint.specs.declared.Positions.{Positions}
 use Rattle.joint.specs.declared.Values.{Values}
 use Rattle.joint.specs.declared.report.Report.{Report}
 use Rattle.chain.specs.Chain.{numberAt, bound, allFollow, chained}
-use Rattle.joint.specs.Layout.{partOfPair, pairOfKind, outlineAt, memberAt, membersIn, dowelIn, column, positionsIn, loadsIn, valuesOf}
+use Rattle.joint.specs.Layout.{partOfPair, pairOfKind, memberAt, membersIn, dowelIn, column, positionsIn, loadsIn, valuesOf}
 use Rattle.joint.specs.Refusal.{refusal1, refusal2, refusal3, refusal4, oneIf, once, refusal5, positionsLength, refusal6}
 use Rattle.joint.specs.Refusal.{outlineWithin, memberWithin, membersWithin, dowelWithin, coordinates, positionsWithin, loadsWithin}
 use Rattle.joint.specs.Refusal.{fieldsWithin, outlineEmpty, emptyOutlines, noForce, firstHolding, refusalNumber, drillFault, refusalOf}
@@ -56,7 +56,7 @@ refused-as : map (λ (s : Starred). refusalOf (s .bytes)) starred ≡ refusals
 unfolding refusalOf refusalNumber firstHolding refusal1 refusal2 refusal3 numberAt bound allFollow chained refusal4 oneIf once refusal5 positionsLength
     refusal6 coordinate force classOf printedClasses outlineWithin memberWithin membersWithin dowelWithin coordinates positionsWithin
     loadsWithin fieldsWithin outlineEmpty emptyOutlines noForce drillFault twosComplement i32At partOfPair pairOfKind
-    outlineAt memberAt membersIn dowelIn column positionsIn loadsIn valuesOf pairFault endFault edgeFault verdictIn
+    memberAt membersIn dowelIn column positionsIn loadsIn valuesOf pairFault endFault edgeFault verdictIn
     memberVerdict spacingVerdict alongEnough endPasses firstFrom partner firstPair
 refused-as = refl
 
@@ -73,6 +73,7 @@ oneDowel = record { n = 1; x = replicate 64 (pos 0); y = replicate 64 (pos 0) }
 -- joint B with the members' classes, fx, fy, t1 and the positions
 abbrev kinOf : ℕ → ℕ → ℕ → ℕ → ℕ → Positions → Values
 kinOf class1 class2 fx fy t1 places = record {
+  version = 1;
   members = record {
     planes = 2;
     member1 = record {
@@ -115,7 +116,7 @@ judgedValues =
     ∷ kin 3000 600 oneDowel ∷ oak ∷ mixed ∷ []
 
 values-as : map (λ (k : ℕ). valuesOf (star k .bytes)) judgedStars ≡ judgedValues
-unfolding twosComplement i32At partOfPair pairOfKind outlineAt memberAt membersIn dowelIn column positionsIn loadsIn valuesOf
+unfolding twosComplement i32At partOfPair pairOfKind memberAt membersIn dowelIn column positionsIn loadsIn valuesOf
 values-as = refl
 
 value-at :

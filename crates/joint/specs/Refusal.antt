@@ -7,10 +7,12 @@ use lib.ListN.{length, getD, replicate}
 use lib.IntN.{ℤ, pos, natAbs}
 use lib.Signed.{leZ}
 use lib.Dec.{ltb, leb, eqb}
-use Rattle.numbers.specs.Numbers.{u8At, coordinate, force}
-use Rattle.codes.specs.Tables.{isClass}
+use Rattle.numbers.specs.Numbers.{coordinate, force}
+use Rattle.numbers.specs.Fields.{size, field}
+use Rattle.codes.specs.Tables.{isVersion, isClass}
 use Rattle.chain.specs.Chain.{chained}
 use Rattle.chain.specs.declared.Width.the-variants.{Two}
+use Rattle.joint.specs.Layout.{membersFront, memberFields, dowelFields, positionsFront, positionFields, loadsFields}
 use Rattle.joint.specs.Layout.{version, pairCount, kindOfPair, partOfKind, valuesOf}
 use Rattle.joint.specs.declared.Outline.{Outline}
 use Rattle.joint.specs.declared.Member.{Member}
@@ -19,6 +21,7 @@ use Rattle.joint.specs.declared.Dowel.{Dowel}
 use Rattle.joint.specs.declared.Positions.{Positions}
 use Rattle.joint.specs.declared.Loads.{Loads}
 use Rattle.joint.specs.declared.Values.{Values}
+use Rattle.joint.specs.declared.Reading.{Reading}
 use Rattle.joint.specs.declared.Outcome.{Outcome}
 use Rattle.spacing.specs.declared.view.Which.{Which}
 use Rattle.spacing.specs.declared.view.Which.the-variants.{Member1, Member2}
@@ -35,7 +38,7 @@ refusal1 s = ltb (length s) 20
 
 -- '2 version not 1'
 unfoldable pub refusal2 : List ℕ → Bool
-refusal2 s = not (eqb (version s) 1)
+refusal2 s = not (isVersion (version s))
 
 -- '3 pair count not 4'
 unfoldable pub refusal3 : List ℕ → Bool
@@ -60,15 +63,22 @@ once s kind =
 unfoldable pub refusal5 : List ℕ → Bool
 refusal5 s = not (once s 1 && once s 2 && once s 3 && once s 4)
 
--- '6 a part's length wrong for its kind (for kind 3: below 2, or not 2 + 8N)'
+-- '6 a part's length wrong for its kind (for kind 3: below 2, or not 2 + 8N)': members 42 bytes, dowel 3, loads 11, by their fields
+abbrev pub positionsSize : ℕ → ℕ
+positionsSize n = size positionsFront + size positionFields * n
+
 unfoldable pub positionsLength : List ℕ → Bool
-positionsLength part = leb 2 (length part) && eqb (length part) (2 + 8 * u8At part 1)
+positionsLength part =
+    leb (size positionsFront) (length part) && eqb (length part) (positionsSize (field positionsFront 1 part 0))
+
+abbrev pub membersSize : ℕ
+membersSize = size membersFront + 2 * size memberFields
 
 unfoldable pub refusal6 : List ℕ → Bool
 refusal6 s =
     not
-    (eqb (length (partOfKind s 1)) 42 && eqb (length (partOfKind s 2)) 3 && positionsLength (partOfKind s 3)
-    && eqb (length (partOfKind s 4)) 11)
+    (eqb (length (partOfKind s 1)) membersSize && eqb (length (partOfKind s 2)) (size dowelFields)
+    && positionsLength (partOfKind s 3) && eqb (length (partOfKind s 4)) (size loadsFields))
 
 -- ---- The designer's data
 -- '7 a field outside its values or limits'
@@ -110,9 +120,6 @@ unfoldable pub fieldsWithin : Values → Bool
 fieldsWithin v =
     membersWithin (v .members) && dowelWithin (v .dowel) && positionsWithin (v .positions) && loadsWithin (v .loads)
 
-abbrev pub refusal7 : List ℕ → Bool
-refusal7 s = not (fieldsWithin (valuesOf s))
-
 -- '8 an outline with x0 ≥ x1 or y0 ≥ y1'
 unfoldable pub outlineEmpty : Outline → Bool
 outlineEmpty o = leZ (o .x1) (o .x0) || leZ (o .y1) (o .y0)
@@ -120,18 +127,12 @@ outlineEmpty o = leZ (o .x1) (o .x0) || leZ (o .y1) (o .y0)
 unfoldable pub emptyOutlines : Members → Bool
 emptyOutlines m = outlineEmpty (m .member1 .outline) || outlineEmpty (m .member2 .outline)
 
-abbrev pub refusal8 : List ℕ → Bool
-refusal8 s = emptyOutlines (valuesOf s .members)
-
 -- '9 both force components 0'
 abbrev pub isZero : ℤ → Bool
 isZero z = eqb (natAbs z) 0
 
 unfoldable pub noForce : Loads → Bool
 noForce l = isZero (l .fx) && isZero (l .fy)
-
-abbrev pub refusal9 : List ℕ → Bool
-refusal9 s = noForce (valuesOf s .loads)
 
 -- ---- The drill plan, of member k, 1 or 2, by the rules of 'Spacing'
 abbrev pub spaced : Member → Piece
@@ -177,24 +178,38 @@ abbrev pub refusal12 : ℕ → List ℕ → Bool
 refusal12 k s = isFault (fault12 k (valuesOf s))
 
 -- ---- 'Order: 1 to 9 as numbered, each over the whole record. Then member 1 for 10, 11, 12, then member 2.'
-abbrev pub scriptTests : List ℕ → List Bool
-scriptTests s = refusal1 s ∷ refusal2 s ∷ refusal3 s ∷ refusal4 s ∷ refusal5 s ∷ refusal6 s ∷ []
+-- a refusal's number, and whether its test holds
+pub record Test : Type 0 where
+  pub number : ℕ
+  pub holds : Bool
 
-abbrev pub designerTests : List ℕ → List Bool
-designerTests s = refusal7 s ∷ refusal8 s ∷ refusal9 s ∷ []
+abbrev pub test : ℕ → Bool → Test
+test k b = record { number = k; holds = b }
 
-abbrev pub drillTests : List ℕ → List Bool
+abbrev pub scriptTests : List ℕ → List Test
+scriptTests s =
+    test 1 (refusal1 s) ∷ test 2 (refusal2 s) ∷ test 3 (refusal3 s) ∷ test 4 (refusal4 s) ∷ test 5 (refusal5 s)
+    ∷ test 6 (refusal6 s) ∷ []
+
+-- of values, whether a record has them or a writer is handed them
+abbrev pub valueTests : Values → List Test
+valueTests v = test 7 (not (fieldsWithin v)) ∷ test 8 (emptyOutlines (v .members)) ∷ test 9 (noForce (v .loads)) ∷ []
+
+abbrev pub designerTests : List ℕ → List Test
+designerTests s = valueTests (valuesOf s)
+
+abbrev pub drillTests : List ℕ → List Test
 drillTests s =
-    refusal10 1 s ∷ refusal11 1 s ∷ refusal12 1 s ∷ refusal10 2 s ∷ refusal11 2 s ∷ refusal12 2 s ∷ []
+    test 10 (refusal10 1 s) ∷ test 11 (refusal11 1 s) ∷ test 12 (refusal12 1 s)
+    ∷ test 10 (refusal10 2 s) ∷ test 11 (refusal11 2 s) ∷ test 12 (refusal12 2 s) ∷ []
 
--- the number of the first test that holds, the first of them having the number k; 0 where none does
-unfoldable pub firstHolding : ℕ → List Bool → ℕ
-firstHolding k [] = 0
-firstHolding k (true ∷ tests) = k
-firstHolding k (false ∷ tests) = firstHolding (suc k) tests
+-- the number of the first test that holds; 0 where none does
+unfoldable pub firstHolding : List Test → ℕ
+firstHolding [] = 0
+firstHolding (t ∷ tests) = cond (t .holds) (t .number) (firstHolding tests)
 
 unfoldable pub refusalNumber : List ℕ → ℕ
-refusalNumber s = firstHolding 1 (scriptTests s ++ designerTests s)
+refusalNumber s = firstHolding (scriptTests s ++ designerTests s)
 
 -- the first fault of the drill plan, or all 0
 unfoldable pub drillFault : Values → Fault
@@ -206,7 +221,7 @@ drillFault v =
 unfoldable pub refusalOf : List ℕ → Fault
 refusalOf s = cond (eqb (refusalNumber s) 0) (drillFault (valuesOf s)) (fault (refusalNumber s) 0 0 0)
 
--- ---- what reading answers: number 0 and the values, or the refusal with its place and every value 0
+-- ---- what reading answers: number 0 and the values, or the refusal and every value 0
 abbrev pub zeroOutline : Outline
 zeroOutline = record { x0 = pos 0; y0 = pos 0; x1 = pos 0; y1 = pos 0 }
 
@@ -216,16 +231,18 @@ zeroMember = record { class = 0; grain = 0; thickness = 0; outline = zeroOutline
 unfoldable pub zeroValues : Values
 zeroValues =
     record {
+      version = 0;
       members = record { planes = 0; member1 = zeroMember; member2 = zeroMember };
       dowel = record { diameter = 0; steel = 0 };
       positions = record { n = 0; x = replicate 64 (pos 0); y = replicate 64 (pos 0) };
       loads = record { «service_class» = 0; duration = 0; fx = pos 0; fy = pos 0 };
     }
 
-abbrev pub refusedBy : Fault → Outcome
-refusedBy f =
-    record { number = f .number; member = f .member; first = f .first; second = f .second; values = zeroValues }
+-- by refusals 1 to 9
+unfoldable pub readingOf : List ℕ → Reading
+readingOf s = record { number = refusalNumber s; values = cond (eqb (refusalNumber s) 0) (valuesOf s) zeroValues }
 
+-- and by all, with the refusal's place
 unfoldable pub outcome : Fault → Values → Outcome
 outcome f v =
     record {

@@ -6,10 +6,10 @@ use mathlib.Core.List.{List, [], _∷_}
 use mathlib.Core.Bool.{Bool, cond, not, _||_}
 use lib.Dec.{eqb}
 use lib.ListN.{length, getD, take, drop}
-use Rattle.numbers.specs.Numbers.{u8At}
+use lib.IntN.{ℤ}
+use Rattle.numbers.specs.Numbers.{u8At, i32At}
 use Rattle.joint.specs.Layout.{pairOffset, pairLength, pairSum, kindOfPair, pairOfKind, partOfKind}
-use Rattle.joint.specs.Refusal.{refusal5, refusal6, fieldsWithin, emptyOutlines, noForce}
-use Rattle.joint.specs.declared.Values.{Values}
+use Rattle.joint.specs.Refusal.{Test, test, refusal5, refusal6}
 use Rattle.joint.specs.declared.Stage.{Stage}
 use Rattle.joint.specs.declared.Stage.the-variants.{Passed, Refused}
 use Rattle.joint.specs.declared.layout.Part.{Part}
@@ -42,8 +42,8 @@ unfoldable pub found : List ℕ → ℕ → Part
 found s kind = cond (present s kind) (partAt s (pairOfKind s kind)) (record { start = 0; bytes = 0 })
 
 -- the tests of the parts
-abbrev pub partTests : List ℕ → List Bool
-partTests s = refusal5 s ∷ refusal6 s ∷ []
+abbrev pub partTests : List ℕ → List Test
+partTests s = test 5 (refusal5 s) ∷ test 6 (refusal6 s) ∷ []
 
 unfoldable pub partsOf : List ℕ → Parts
 partsOf s = record {
@@ -68,6 +68,7 @@ pub record Stretch (s : List ℕ) (kind : ℕ) (p : Part) : Type 0 where
   pub bytes : take (p .bytes) (drop (p .start) s) ≡ partOfKind s kind
 
 pub record LaidOut (s : List ℕ) (p : Parts) : Type 0 where
+  pub header : 20 ≤ length s
   pub members : Stretch s 1 (p .members)
   pub dowel : Stretch s 2 (p .dowel)
   pub positions : Stretch s 3 (p .positions)
@@ -87,6 +88,6 @@ unfoldable pub stageNumber : Stage → ℕ
 stageNumber Passed = 0
 stageNumber (Refused k) = k
 
--- the tests of values, for whoever has values and no record
-abbrev pub valueTests : Values → List Bool
-valueTests v = not (fieldsWithin v) ∷ emptyOutlines (v .members) ∷ noForce (v .loads) ∷ []
+-- every eighth byte of a part, from `at` on, starts a number
+abbrev pub eighths : List ℕ → ℕ → ℕ → ℤ
+eighths part at i = i32At part (at + 8 * i)

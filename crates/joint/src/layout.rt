@@ -1,4 +1,18 @@
 // The record's header, pairs, kinds and lengths: refusals 1 to 6.
+use crate::places::COUNT_AT;
+use crate::places::DOWEL;
+use crate::places::DOWEL_BYTES;
+use crate::places::FIRST_PAIR;
+use crate::places::HEADER_BYTES;
+use crate::places::LOADS;
+use crate::places::LOADS_BYTES;
+use crate::places::MEMBERS;
+use crate::places::MEMBERS_BYTES;
+use crate::places::PAIRS;
+use crate::places::POSITION_BYTES;
+use crate::places::POSITIONS;
+use crate::places::POSITIONS_FRONT;
+use crate::places::VERSION_AT;
 use crate::refusals::KINDS_NOT_ONCE;
 use crate::refusals::OTHER_PAIR_COUNT;
 use crate::refusals::OTHER_VERSION;
@@ -6,46 +20,13 @@ use crate::refusals::PAIRS_AGAINST_RULE;
 use crate::refusals::TOO_FEW_BYTES;
 use crate::refusals::WRONG_LENGTH;
 use chain::Width;
+use codes::is_version;
 use numbers::u16_at;
 ghost use mathlib.Core.Path.{_≡_};
 ghost use Prim.Native.Nat.{_+_, _≤_};
 ghost use lib.ListN.{length, take, drop};
 ghost use Rattle.joint.specs.Refusal.{positionsLength, firstHolding, scriptTests};
 ghost use Rattle.joint.specs.Stage.{Bounded, found, partTests, partsOf, layout, layoutNumber};
-
-// The version, where it stands and where the number of pairs does.
-const VERSION: u16 = 1;
-
-const VERSION_AT: usize = 0;
-
-const COUNT_AT: usize = 2;
-
-// How many pairs there are, where the first one stands and where the first part starts: right after the last pair.
-const PAIRS: usize = 4;
-
-const FIRST_PAIR: usize = 4;
-
-const HEADER_BYTES: usize = 20;
-
-// The kinds of parts, and the bytes of those that have one length only.
-const MEMBERS: u8 = 1;
-
-const DOWEL: u8 = 2;
-
-const POSITIONS: u8 = 3;
-
-const LOADS: u8 = 4;
-
-const MEMBERS_BYTES: usize = 42;
-
-const DOWEL_BYTES: usize = 3;
-
-const LOADS_BYTES: usize = 11;
-
-// Kind and N, and then x and y of each dowel.
-const POSITIONS_FRONT: usize = 2;
-
-pub(crate) const POSITION_BYTES: usize = 8;
 
 // The first byte of a part, and how many it has.
 pub(crate) struct Part {
@@ -116,7 +97,7 @@ fn positions_length(part: &[u8]) -> bool
 // Refusals 5 and 6: where four parts have four kinds, each kind is there once.
 fn find_parts(bytes: &[u8], bounds: &[usize; PAIRS + 1]) -> Layout
     requires { ⌜ Bounded (now bytes) (now bounds) ⌝ }
-    ensures { λ r. ⌜ r ≡ layout (firstHolding 5 (partTests (now (bytes .entry)))) (partsOf (now (bytes .entry))) ⌝ }
+    ensures { λ r. ⌜ r ≡ layout (firstHolding (partTests (now (bytes .entry)))) (partsOf (now (bytes .entry))) ⌝ }
 {
     let members = find_part(bytes, bounds, MEMBERS);
     let dowel = find_part(bytes, bounds, DOWEL);
@@ -142,13 +123,13 @@ fn find_parts(bytes: &[u8], bounds: &[usize; PAIRS + 1]) -> Layout
 
 // Refusals 1 to 6.
 pub(crate) fn read_layout(bytes: &[u8]) -> Layout
-    ensures { λ r. ⌜ r ≡ layout (firstHolding 1 (scriptTests (now (bytes .entry)))) (partsOf (now (bytes .entry))) ⌝ }
+    ensures { λ r. ⌜ r ≡ layout (firstHolding (scriptTests (now (bytes .entry)))) (partsOf (now (bytes .entry))) ⌝ }
 {
     if bytes.len() < HEADER_BYTES {
         return Layout::Refused(TOO_FEW_BYTES);
     }
     let version = u16_at(bytes, VERSION_AT);
-    if version != VERSION {
+    if !is_version(version) {
         return Layout::Refused(OTHER_VERSION);
     }
     let count = u16_at(bytes, COUNT_AT) as usize;

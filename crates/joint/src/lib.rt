@@ -1,8 +1,8 @@
 // Joint records: one is read from bytes, or refused (01, 'The record' and 'Who causes which refusal').
 ghost use mathlib.Core.Path.{_≡_};
-ghost use Rattle.spacing.specs.Verdict.{fault};
-ghost use Rattle.joint.specs.Refusal.{refusedBy, outcomeOf};
+ghost use Rattle.joint.specs.Refusal.{firstHolding, zeroValues, readingOf, outcomeOf};
 ghost use Rattle.joint.specs.Stage.{stageNumber};
+ghost use Rattle.joint.specs.Refusal.{valueTests};
 ghost use Rattle.joint.specs.Claim.{Reported};
 
 mod demand;
@@ -11,6 +11,7 @@ mod figures;
 mod layout;
 mod limits;
 mod parts;
+pub mod places;
 pub mod refusals;
 pub mod report;
 
@@ -67,10 +68,17 @@ pub struct Loads {
 }
 
 pub struct Values {
+    pub version: u16,
     pub members: Members,
     pub dowel: Dowel,
     pub positions: Positions,
     pub loads: Loads,
+}
+
+// A refusal 1 to 9, and values that are all 0; or number 0 and the record's values.
+pub struct Reading {
+    pub number: u8,
+    pub values: Values,
 }
 
 // A refusal with its place, and values that are all 0; or number and place 0 and the record's values.
@@ -97,11 +105,18 @@ fn number_of(stage: Stage) -> u8
     }
 }
 
-// A refusal with its place.
-fn refused(number: u8, member: u8, first: u8, second: u8) -> Outcome
-    ensures { λ r. ⌜ r ≡ refusedBy (fault number member first second) ⌝ }
+// The first of refusals 7 to 9 that values have, or 0.
+pub fn refusal_of_values(values: Values) -> u8
+    ensures { λ r. ⌜ r ≡ firstHolding (valueTests values) ⌝ }
 {
-    let nothing = Member {
+    number_of(limits::check_values(values))
+}
+
+// Values that are all 0, for what was refused.
+fn nothing() -> Values
+    ensures { λ r. ⌜ r ≡ zeroValues ⌝ }
+{
+    let member = Member {
         class: 0,
         grain: 0,
         thickness: 0,
@@ -112,52 +127,77 @@ fn refused(number: u8, member: u8, first: u8, second: u8) -> Outcome
             y1: 0,
         },
     };
-    Outcome {
-        number,
-        member,
-        first,
-        second,
-        values: Values {
-            members: Members {
-                planes: 0,
-                member1: nothing,
-                member2: nothing,
-            },
-            dowel: Dowel {
-                diameter: 0,
-                steel: 0,
-            },
-            positions: Positions {
-                n: 0,
-                x: [0i32; MOST_DOWELS],
-                y: [0i32; MOST_DOWELS],
-            },
-            loads: Loads {
-                service_class: 0,
-                duration: 0,
-                fx: 0,
-                fy: 0,
-            },
+    Values {
+        version: 0,
+        members: Members {
+            planes: 0,
+            member1: member,
+            member2: member,
+        },
+        dowel: Dowel {
+            diameter: 0,
+            steel: 0,
+        },
+        positions: Positions {
+            n: 0,
+            x: [0i32; MOST_DOWELS],
+            y: [0i32; MOST_DOWELS],
+        },
+        loads: Loads {
+            service_class: 0,
+            duration: 0,
+            fx: 0,
+            fy: 0,
         },
     }
+}
+
+// Reads a record: the first of refusals 1 to 9 that applies, or the record's values.
+pub fn read(bytes: &[u8]) -> Reading
+    ensures { λ r. ⌜ r ≡ readingOf (now (bytes .entry)) ⌝ }
+{
+    let layout = layout::read_layout(bytes);
+    let Layout::Laid(parts) = layout else {
+        return Reading {
+            number: layout_number(layout),
+            values: nothing(),
+        };
+    };
+    let values = parts::values_of(bytes, parts);
+    let limits = limits::check_values(values);
+    let Stage::Passed = limits else {
+        return Reading {
+            number: number_of(limits),
+            values: nothing(),
+        };
+    };
+    Reading { number: 0, values }
 }
 
 // Reads a record and judges it by all twelve refusals: the first that applies, with its place, or the record's values.
 pub fn refusal(bytes: &[u8]) -> Outcome
     ensures { λ r. ⌜ r ≡ outcomeOf (now (bytes .entry)) ⌝ }
 {
-    let layout = layout::read_layout(bytes);
-    let Layout::Laid(parts) = layout else {
-        return refused(layout_number(layout), 0, 0, 0);
-    };
-    let values = parts::values_of(bytes, parts);
-    let limits = limits::check_values(values);
-    let Stage::Passed = limits else {
-        return refused(number_of(limits), 0, 0, 0);
-    };
+    let reading = read(bytes);
+    let values = reading.values;
+    if reading.number != 0 {
+        return Outcome {
+            number: reading.number,
+            member: 0,
+            first: 0,
+            second: 0,
+            values,
+        };
+    }
     let fault = drill::first_fault(values);
     if fault.number != 0 {
-        return refused(fault.number, fault.member, fault.first, fault.second);
+        return Outcome {
+            number: fault.number,
+            member: fault.member,
+            first: fault.first,
+            second: fault.second,
+            values: nothing(),
+        };
     }
     Outcome {
         number: 0,

@@ -15,7 +15,8 @@ use numbers::is_force;
 ghost use mathlib.Core.Path.{_≡_};
 ghost use Prim.Native.Nat.{_≤_};
 ghost use Rattle.joint.specs.Refusal.{between, memberWithin, coordinates, positionsWithin, loadsWithin, outlineEmpty, firstHolding};
-ghost use Rattle.joint.specs.Stage.{stage, valueTests};
+ghost use Rattle.joint.specs.Stage.{stage};
+ghost use Rattle.joint.specs.Refusal.{valueTests};
 
 // Codes of steel, service class and duration count from 1, the grain from 0.
 const FIRST_CODE: u8 = 1;
@@ -107,7 +108,7 @@ fn outline_empty(o: Outline) -> bool
 
 // Refusals 7 to 9.
 pub(crate) fn check_values(v: Values) -> Stage
-    ensures { λ r. ⌜ r ≡ stage (firstHolding 7 (valueTests v)) ⌝ }
+    ensures { λ r. ⌜ r ≡ stage (firstHolding (valueTests v)) ⌝ }
 {
     let members = v.members;
     let dowel = v.dowel;
@@ -119,10 +120,11 @@ pub(crate) fn check_values(v: Values) -> Stage
             & is_between(FIRST_CODE, LAST_STEEL, dowel.steel))
         & positions_within(v.positions)
         & loads_within(loads);
+    let empty = outline_empty(members.member1.outline) | outline_empty(members.member2.outline);
     if !within {
         return Stage::Refused(FIELD_OUTSIDE);
     }
-    if outline_empty(members.member1.outline) | outline_empty(members.member2.outline) {
+    if empty {
         return Stage::Refused(EMPTY_OUTLINE);
     }
     if (loads.fx == 0) & (loads.fy == 0) {

@@ -7,9 +7,14 @@ use crate::Members;
 use crate::Outline;
 use crate::Positions;
 use crate::Values;
-use crate::layout::POSITION_BYTES;
 use crate::layout::Parts;
 use crate::layout::stretch;
+use crate::places::FIRST_X;
+use crate::places::FIRST_Y;
+use crate::places::MEMBER_1;
+use crate::places::MEMBER_2;
+use crate::places::POSITION_BYTES;
+use crate::places::VERSION_AT;
 use numbers::i32_at;
 use numbers::u16_at;
 ghost use mathlib.Core.Path.{_≡_};
@@ -17,33 +22,22 @@ ghost use Prim.Native.Nat.{_+_, _*_, _≤_, min};
 ghost use lib.ListN.{length};
 ghost use Rattle.numbers.specs.Numbers.{u8At};
 ghost use Rattle.joint.specs.Layout.{memberAt, membersIn, dowelIn, column, positionsIn, loadsIn, valuesOf};
-ghost use Rattle.joint.specs.Stage.{LaidOut};
-
-// Where the members stand in their part, after kind and shear planes; each has 20 bytes.
-const MEMBER_1: usize = 2;
-
-const MEMBER_2: usize = 22;
-
-// Where the first dowel's x and y stand in their part, after kind and N.
-const FIRST_X: usize = 2;
-
-const FIRST_Y: usize = 6;
+ghost use Rattle.joint.specs.Stage.{LaidOut, eighths};
 
 // Class, grain, thickness, then x0, y0, x1 and y1.
 fn member_at(part: &[u8], i: usize) -> Member
     requires { ⌜ i + 20 ≤ length (now part) ⌝ }
     ensures { λ r. ⌜ r ≡ memberAt (now (part .entry)) i ⌝ }
 {
-    let o = i + 4;
     Member {
         class: part[i],
         grain: part[i + 1],
         thickness: u16_at(part, i + 2),
         outline: Outline {
-            x0: i32_at(part, o),
-            y0: i32_at(part, o + 4),
-            x1: i32_at(part, o + 8),
-            y1: i32_at(part, o + 12),
+            x0: i32_at(part, i + 4),
+            y0: i32_at(part, i + 8),
+            x1: i32_at(part, i + 12),
+            y1: i32_at(part, i + 16),
         },
     }
 }
@@ -81,7 +75,7 @@ fn places(n: usize) -> usize
 // Every eighth byte from `at` on starts a dowel's number.
 fn column_of(part: &[u8], at: usize, n: usize) -> [i32; MOST_DOWELS]
     requires { ⌜ (at ≤ 6) × (2 + 8 * n ≤ length (now part)) ⌝ }
-    ensures { λ r. ⌜ r ≡ column (now (part .entry)) at n ⌝ }
+    ensures { λ r. ⌜ r ≡ column (eighths (now (part .entry)) at) n ⌝ }
 {
     let held = places(n);
     let mut l = [0i32; MOST_DOWELS];
@@ -127,6 +121,7 @@ pub(crate) fn values_of(bytes: &[u8], parts: Parts) -> Values
     let positions = parts.positions;
     let loads = parts.loads;
     Values {
+        version: u16_at(bytes, VERSION_AT),
         members: members_in(stretch(bytes, members)),
         dowel: dowel_in(stretch(bytes, dowel)),
         positions: positions_in(stretch(bytes, positions)),

@@ -1,1 +1,3 @@
 pub mod Export
+pub mod Exchange
+pub mod Working

@@ -1,1 +1,2 @@
 mod Complement
+pub mod Bytes

@@ -1,22 +1,13 @@
 -- Eight stores from place 0 on.
 use native.Mathlib.Omega.{arith}
 use borrow.Author.Needs.{needs}
-use Prim.Native.Nat.{ℕ}
-use mathlib.Core.Path.{refl, ap, _∙_}
-use mathlib.Core.List.{List, [], _∷_}
 use lib.ListN.{length-set}
-use lib.Seq.{sets, sets-eq}
-use Rattle.joint.specs.declared.report.Report.{Report}
-use Rattle.negwishal.specs.Export.{filled}
+use Rattle.negwishal.proofs.Laws.{too-short, stored}
 use Rattle.negwishal.proofs.negwishal_judge.Statement.{statement}
 use Rattle.negwishal.proofs.negwishal_judge.Tie as tie
 
--- a report's fields but the verdict
-abbrev rest : Report → List ℕ
-rest r = r .number ∷ r .member ∷ r .first ∷ r .second ∷ r .usage ∷ r .capacity ∷ r .share ∷ []
-
 returns : tie.Need-returns
-returns c = record { short = λ l. (refl, refl); report = λ h. absurd (omega arith) }
+returns c = too-short (omega arith)
 
 judge-requires : tie.Need-judge-requires
 judge-requires c κs = search needs
@@ -64,16 +55,9 @@ same-length : tie.Need-same-length
 same-length c = simp length-set
 
 returns-2 : tie.Need-returns-2
-returns-2 c = record {
-  short = λ l. absurd (omega arith);
-  report = λ h. (
-    c .before .before .before .before .before .judge .result,
-    refl,
-    c .before .before .before .before .before .judge .ensures .claim,
-    ap (λ (v : ℕ). sets (c .before .before .before .before .before .before .before .before .before .args .out .now) 0 (v ∷ rest (c .before .before .before .before .before .judge .result))) (c .before .before .before .before .verdict-code .ensures)
-        ∙ sets-eq (filled (c .before .before .before .before .before .judge .result)) (c .before .before .before .before .before .before .before .before .before .args .out .now) 0 h,
-  );
-}
+returns-2 c =
+    let b = c .before .before .before .before .before in
+    stored (omega arith) (b .judge .ensures) (c .before .before .before .before .verdict-code .ensures)
 
 pub negwishal-judge-spec : {M : Type 1} → statement M
 negwishal-judge-spec =

@@ -9,9 +9,10 @@ use Rattle.joint.proofs.Stages.{bounded, HeaderRight, too-short, wrong-
 use Rattle.joint.proofs.layout.read_layout.Statement.{statement}
 use Rattle.joint.proofs.layout.read_layout.Tie as tie
 
-header : (c : tie.Else3) → HeaderRight (now (c .before .before .before .before .before .before .args .bytes))
+header : (c : tie.Else3) → HeaderRight (now (c .before .before .before .before .before .before .before .args .bytes))
 header c =
-    let l : 20 ≤ length (now (c .before .before .before .before .before .before .args .bytes)) = omega arith in
+    let b : tie.After-u16-at = search in
+    let l : 20 ≤ length (now (b .before .before .before .args .bytes)) = omega arith in
     search header-right
 
 pub read-layout-spec : {M : Type 1} → statement M
@@ -20,12 +21,14 @@ read-layout-spec =
     (tie.spec
     (λ c. too-short _ (omega arith))
     (λ c κs. search needs)
-    (λ c. wrong-version _ (omega arith) (c .before .u16-at .ensures) (c .if2 .taken))
+    (λ c κs. tt)
+    (λ c. wrong-version _ (omega arith) (c .before .before .u16-at .ensures) (c .before .is-version .ensures) (c .if2 .taken))
     (λ c κs. search needs)
     (λ c. search needs)
     (λ c.
-    let b = c .before .before in
-    wrong-count _ (omega arith) (b .before .u16-at .ensures) (b .if2 .left) (c .before .u16-at2 .ensures) (c .if3 .taken))
+    let b : tie.After-is-version = search in
+    let t : tie.Else2 = search in
+    wrong-count _ (omega arith) (b .before .u16-at .ensures) (b .is-version .ensures) (t .if2 .left) (c .before .u16-at2 .ensures) (c .if3 .taken))
     (λ c. search needs)
     (λ c κs. search needs)
     (λ c. pairs-broken _ (header (c .before .before .before .before)) (c .before .before .read .ensures) (c .if4 .taken))

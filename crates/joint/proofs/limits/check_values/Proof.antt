@@ -32,19 +32,25 @@ check-values-spec =
     (λ c κs. search needs)
     (λ c κs. search needs)
     (λ c κs. search needs)
-    (λ c. values-outside _ (c .if1 .taken) (fields (c .before)))
     (λ c κs. search needs)
     (λ c κs. search needs)
+    (λ c. let f : tie.After-loads-within = search in values-outside _ (c .if1 .taken) (fields f))
     (λ c.
-    let b = c .before .before in
-    let f = b .before in
-    values-empty _ (f .if1 .left) (fields (f .before)) (b .outline-empty .ensures) (c .before .outline-empty2 .ensures) (c .if2 .taken))
+    let f : tie.After-loads-within = search in
+    let a : tie.After-outline-empty = search in
+    let b : tie.After-outline-empty2 = search in
+    values-empty _ (c .before .if1 .left) (fields f) (a .outline-empty .ensures) (b .outline-empty2 .ensures) (c .if2 .taken))
     (λ c.
-    let b = c .before .before .before .before .before in
-    let d = b .before .before in
-    let f = d .before in
-    values-unloaded _ (f .if1 .left) (fields (f .before)) (d .outline-empty .ensures) (b .before .outline-empty2 .ensures) (b .if2 .left)
+    let e = c .before .before .before .before .before in
+    let b = e .before .before in
+    values-unloaded _ (e .before .if1 .left) (fields (b .before .before)) (b .before .outline-empty .ensures) (b .outline-empty2 .ensures) (e .if2 .left)
     (search needs)
     (search needs)
     (c .if3 .taken))
-    (λ c. search (values-right, fields)))
+    (λ c.
+    let e = c .before .before .before .before .before in
+    let b = e .before .before in
+    values-right _ (e .before .if1 .left) (fields (b .before .before)) (b .before .outline-empty .ensures) (b .outline-empty2 .ensures) (e .if2 .left)
+    (search needs)
+    (search needs)
+    (c .if3 .left)))

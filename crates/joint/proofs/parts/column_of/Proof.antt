@@ -7,11 +7,12 @@ use native.Mathlib.Omega.{arith}
 use Rattle.joint.proofs.Columns.{column-more, column-none, column-places}
 use Rattle.joint.proofs.Tests.{from-bits}
 use Rattle.joint.specs.Layout.{column}
+use Rattle.joint.specs.Stage.{eighths}
 use Rattle.joint.proofs.parts.column_of.Statement.{statement}
 use Rattle.joint.proofs.parts.column_of.Tie as tie
 
 abbrev Inv-loop : tie.InvT-loop
-Inv-loop part at n held l₀ i₀ l i = (i ≤ held) × (l ≡ column part at i)
+Inv-loop part at n held l₀ i₀ l i = (i ≤ held) × (l ≡ column (eighths part at) i)
 
 abbrev μ-loop : tie.MeasureT-loop
 μ-loop part at n held l₀ i₀ l i = held - i
@@ -23,7 +24,7 @@ column-of-spec =
     Inv-loop
     μ-loop
     (λ c κs. search needs)
-    (λ c. (search needs, sym (column-none (now (c .before .before .args .part)) (c .before .before .args .at))))
+    (λ c. (search needs, sym (column-none (eighths (now (c .before .before .args .part)) (c .before .before .args .at)))))
     (λ c. search needs)
     (λ c. search needs)
     (λ c κs. search needs)
@@ -34,9 +35,9 @@ column-of-spec =
     (λ c.
     let a = c .before .before .before .before .before .args in
     let l = c .before .before .loop in
-    (search needs, simp (l .inv .1, column-more (now (a .part)) (a .at) (l .i), from-bits (c .i32-at .ensures) (c .i32-at .ok))))
+    (search needs, simp (l .inv .1, column-more (eighths (now (a .part)) (a .at)) (l .i), from-bits (c .i32-at .ensures) (c .i32-at .ok))))
     (λ c.
     let p = c .before .before in
     let a = p .before .before .args in
     let e : c .before .loop .i ≡ p .places .result = omega arith in
-    c .before .loop .inv .1 ∙ rw (e, p .places .ensures) (column-places (now (a .part)) (a .at) (a .n))))
+    c .before .loop .inv .1 ∙ rw (e, p .places .ensures) (column-places (eighths (now (a .part)) (a .at)) (a .n))))

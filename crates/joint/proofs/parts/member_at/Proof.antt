@@ -1,11 +1,12 @@
 use borrow.Author.Needs.{needs}
+use native.Mathlib.Nat.{add-zero}
 use Rattle.joint.proofs.Tests.{from-bits}
-use Rattle.joint.specs.Layout.{outlineAt, memberAt}
+use Rattle.joint.specs.Layout.{memberAt}
 use Rattle.joint.proofs.parts.member_at.Statement.{statement}
 use Rattle.joint.proofs.parts.member_at.Tie as tie
 
 pub member-at-spec : {M : Type 1} → statement M
-unfolding memberAt outlineAt
+unfolding memberAt
 member-at-spec =
     tie.close
     (tie.spec
@@ -13,8 +14,8 @@ member-at-spec =
     (λ c. search needs)
     (λ c. search needs)
     (λ c. search needs)
-    (λ c. search needs)
     (λ c κs. search needs)
+    (λ c. search needs)
     (λ c κs. search needs)
     (λ c. search needs)
     (λ c κs. search needs)
@@ -28,6 +29,7 @@ member-at-spec =
     let x1 = c .before .i32-at3 in
     let y1 = c .i32-at4 in
     simp (
+      add-zero,
       c .before .before .before .before .u16-at .ensures,
       from-bits (x0 .ensures) (x0 .ok),
       from-bits (y0 .ensures) (y0 .ok),

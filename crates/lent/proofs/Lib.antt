@@ -1,0 +1,2 @@
+mod Back
+pub mod Inverse
