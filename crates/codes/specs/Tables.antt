@@ -1,4 +1,5 @@
--- The tables of 01 and of 02's A1: what a code stands for, and which versions there are. A class that the table lacks is `Unknown`, another code `Unlisted`.
+-- The tables of 01 and of 02's A1: what a code stands for, and which versions there are. A class that the table lacks is `Unknown`, another
+-- code `Unlisted`.
 use Prim.Native.Nat.{ℕ, _+_, _*_}
 use mathlib.Core.Bool.{Bool, true, false, cond}
 use mathlib.Core.List.{List, [], _∷_}

@@ -2,7 +2,7 @@
 -- its values, so that a writer can make them too; those of 10 to 12 are the rules of crate `spacing` at its values.
 use Prim.Native.Nat.{ℕ, zero, suc, _+_, _*_}
 use mathlib.Core.List.{List, [], _∷_, _++_}
-use mathlib.Core.Bool.{Bool, true, false, cond, not, _&&_, _||_}
+use mathlib.Core.Bool.{Bool, true, cond, not, _&&_, _||_}
 use lib.ListN.{length, getD, replicate}
 use lib.IntN.{ℤ, pos, natAbs}
 use lib.Signed.{leZ}

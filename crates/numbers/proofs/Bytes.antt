@@ -1,17 +1,17 @@
 -- Laws of numbers written into bytes: runs of stores that follow one another, and that reading undoes writing.
-use Prim.Native.Nat.{ℕ, zero, suc, _+_, _*_, _-_, _/_, _%_, _≤_, _<_}
+use Prim.Native.Nat.{ℕ, suc, _+_, _*_, _-_, _/_, _%_, _≤_, _<_}
 use native.Mathlib.Nat.{add-zero, suc-add, add-suc}
 use native.Mathlib.Omega.{arith}
 use borrow.Author.Tests.{lt-ltb, leb-true}
 use mathlib.Core.Bool.{true, and-eq-true-iff}
 use mathlib.Core.List.{List, [], _∷_, _++_}
 use mathlib.Core.Path.{_≡_, sym, ap, _∙_}
-use lib.Dec.{leb, lit<}
+use lib.Dec.{leb}
 use lib.IntN.{ℤ, pos, negsuc}
-use lib.ListN.{length, getD, set}
+use lib.ListN.{length, set}
 use lib.Seq.{sets, length-sets}
 use lib.Signed.{mag}
-use Rattle.numbers.specs.Numbers.{u16Bytes, u32Bytes, i32Bytes, twosComplement, complementOf, i32At, betweenZ, coordinate, force}
+use Rattle.numbers.specs.Numbers.{i32Bytes, twosComplement, complementOf, i32At, betweenZ, coordinate, force}
 use Rattle.numbers.proofs.Complement.{signed-high}
 
 -- ---- runs of stores
@@ -55,11 +55,6 @@ unfolding i32At
 i32-back z h = rw (u32-back (complementOf z)) (complement-back z h)
 
 -- ---- the numbers that fit
-pub complement-fits : (z : ℤ) → mag z < 2147483648 → complementOf z < 4294967296
-unfolding complementOf
-complement-fits (pos n) h = omega arith
-complement-fits (negsuc n) h = omega arith
-
 between-fits : (low high : ℕ) (z : ℤ) → betweenZ (negsuc low) (pos high) z ≡ true → low ≤ 1000000 → high ≤ 1000000 → mag z < 2147483648
 between-fits low high (pos n) h l g = omega (arith, leb-true n high h)
 between-fits low high (negsuc n) h l g = omega (arith, leb-true n low (and-eq-true-iff (leb n low) _ .0 h .0))
@@ -71,26 +66,3 @@ coordinate-fits z h = between-fits 99999 100000 z h (omega arith) (omega arith)
 pub force-fits : (z : ℤ) → force z ≡ true → mag z < 2147483648
 unfolding force
 force-fits z h = between-fits 999999 1000000 z h (omega arith) (omega arith)
-
--- ---- numbers that are bytes
-pub data AllBytes : List ℕ → Type 0 where
-  none : AllBytes []
-  one : {x : ℕ} {xs : List ℕ} → x < 256 → AllBytes xs → AllBytes (x ∷ xs)
-
-pub bytes-append : {xs ys : List ℕ} → AllBytes xs → AllBytes ys → AllBytes (xs ++ ys)
-bytes-append none h = h
-bytes-append (one l g) h = one l (bytes-append g h)
-
-pub byte-at : {xs : List ℕ} → AllBytes xs → (k : ℕ) → getD xs k 0 < 256
-byte-at none k = lit< tt
-byte-at (one l g) zero = l
-byte-at (one l g) (suc k) = byte-at g k
-
-pub u16-bytes : (n : ℕ) → n < 65536 → AllBytes (u16Bytes n)
-u16-bytes n h = one {x = n % 256} (omega arith) (one {x = n / 256} (omega arith) none)
-
-pub u32-bytes : (n : ℕ) → n < 4294967296 → AllBytes (u32Bytes n)
-u32-bytes n h = bytes-append (u16-bytes (n % 65536) (omega arith)) (u16-bytes (n / 65536) (omega arith))
-
-pub i32-bytes : (z : ℤ) → mag z < 2147483648 → AllBytes (i32Bytes z)
-i32-bytes z h = u32-bytes (complementOf z) (complement-fits z h)

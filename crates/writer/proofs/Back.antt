@@ -3,17 +3,15 @@ use Prim.Native.Nat.{ℕ, zero, suc, _+_, _*_, _≤_, _<_}
 use mathlib.Core.Path.{_≡_, refl, sym, ap, _∙_}
 use mathlib.Core.List.{List, [], _∷_, _++_, append-assoc, append-nil}
 use mathlib.Core.Bool.{Bool, true, false, not, _&&_, and-eq-true-iff}
-use mathlib.Core.Logic.{inl, inr}
 use native.Mathlib.Omega.{arith}
-use native.Mathlib.Nat.{add-assoc}
 use native.Mathlib.Decide.{ℕ-discrete, decLt}
 use borrow.Author.Tests.{le-ltb, le-leb, eq-eqb}
-use lib.Dec.{eqb, leb}
+use lib.Dec.{eqb}
 use lib.ListN.{length, getD, set, drop}
 use lib.Seq.{getD-set-same, getD-set-other, getD-drop, drop-drop, drop-append-le, drop-at}
 use lib.Signed.{mag}
 use lib.IntN.{ℤ, pos}
-use Rattle.numbers.specs.Numbers.{u8At, i32At, twosComplement, coordinate, force}
+use Rattle.numbers.specs.Numbers.{u8At, i32At, twosComplement, coordinate}
 use Rattle.numbers.specs.Fields.{fieldBytes}
 use Rattle.numbers.proofs.Bytes.{u16-back, i32-back, coordinate-fits, force-fits}
 use Rattle.codes.specs.Tables.{isVersion}

@@ -1,22 +1,19 @@
 -- Four parts put together as a record: its header, its pairs and its parts read as they were.
-use Prim.Native.Nat.{ℕ, zero, suc, _+_, _*_, _-_, _/_, _%_, _≤_, _<_}
+use Prim.Native.Nat.{ℕ, _+_, _*_, _-_, _/_, _%_, _≤_, _<_}
 use mathlib.Core.Path.{_≡_, refl, sym, ap, _∙_}
-use mathlib.Core.List.{List, [], _∷_, _++_, append-assoc, append-nil}
+use mathlib.Core.List.{List, [], _∷_, _++_}
 use mathlib.Core.Bool.{Bool, true, false, not, _&&_}
 use native.Mathlib.Omega.{arith}
-use native.Mathlib.Nat.{add-zero}
-use borrow.Author.Tests.{eq-eqb, ne-eqb, le-ltb}
-use lib.Dec.{eqb, leb, ltb}
-use lib.ListN.{length, getD, take, drop, length-append}
+use borrow.Author.Tests.{eq-eqb, ne-eqb}
+use lib.Dec.{eqb}
+use lib.ListN.{length, take, drop, length-append}
 use lib.Seq.{drop-drop, drop-append-seam, take-append-seam}
-use lib.IntN.{ℤ, pos}
-use Rattle.numbers.specs.Numbers.{u8At, u16At}
+use Rattle.numbers.specs.Numbers.{u8At}
 use Rattle.numbers.proofs.Bytes.{u16-back}
-use Rattle.chain.specs.declared.Width.the-variants.{Two}
 use Rattle.chain.specs.Chain.{numberAt, continues, bound, allFollow, chained}
 use Rattle.joint.specs.declared.Values.{Values}
 use Rattle.joint.specs.Layout.{version, pairCount, pairOffset, pairLength, partOfPair, kindOfPair, pairOfKind, partOfKind, pairsBytes, joined}
-use Rattle.joint.specs.Refusal.{refusal1, refusal3, refusal4, refusal5, oneIf, once}
+use Rattle.joint.specs.Refusal.{refusal4, refusal5, oneIf, once}
 
 -- 4, over the numbers of the pairs and the record'assembled length
 broken : (o1 l1 o2 l2 o3 l3 o4 l4 all : ℕ) → Bool

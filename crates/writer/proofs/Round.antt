@@ -1,13 +1,13 @@
 -- What the writer promises, over the definitions: it writes what passes its tests; what it wrote passes 1 to 9 and reads back; a record
 -- read and written again reads alike; the buffer's old bytes play no part.
-use Prim.Native.Nat.{ℕ, zero, suc, _+_, _*_, _≤_, _<_}
+use Prim.Native.Nat.{ℕ, _+_, _*_, _≤_, _<_}
 use mathlib.Core.Path.{_≡_, refl, sym, ap, _∙_}
 use mathlib.Core.List.{List, [], _∷_, _++_}
-use mathlib.Core.Bool.{Bool, true, false, cond, not, _&&_, false≢true, and-eq-true-iff}
+use mathlib.Core.Bool.{Bool, true, false, not, _&&_, false≢true, and-eq-true-iff}
 use native.Mathlib.Omega.{arith}
-use borrow.Author.Tests.{le-ltb, le-leb, eq-eqb, eqb-true, eqb-false, not-false}
+use borrow.Author.Tests.{le-ltb, le-leb, eq-eqb, eqb-true, not-false}
 use lib.Dec.{ltb, eqb}
-use lib.ListN.{length, getD, take, drop, replicate}
+use lib.ListN.{length, getD, take, drop}
 use lib.Seq.{take-append-seam, length-take-le, getD-take}
 use lib.IntN.{ℤ, pos, negsuc, natAbs}
 use Rattle.codes.specs.Tables.{isVersion}
@@ -15,8 +15,7 @@ use Rattle.joint.specs.declared.Positions.{Positions}
 use Rattle.joint.specs.declared.Values.{Values}
 use Rattle.joint.specs.Layout.{partOfKind, positionField, column, positionsIn, bytesOf, valuesOf}
 use Rattle.joint.specs.Refusal.{refusal2, refusal4, refusal5, refusal6, emptyOutlines, noForce, fieldsWithin}
-use Rattle.joint.specs.Refusal.{Test, test, firstHolding, scriptTests, designerTests, refusalNumber, readingOf}
-use Rattle.joint.specs.Refusal.{valueTests}
+use Rattle.joint.specs.Refusal.{test, firstHolding, scriptTests, designerTests, refusalNumber, readingOf}
 use Rattle.joint.proofs.Holding.{numbered, no-number, first-zero}
 use Rattle.joint.proofs.Accepted.{fields-hold}
 use Rattle.joint.proofs.Columns.{column-length, column-same}

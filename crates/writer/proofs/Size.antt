@@ -1,15 +1,15 @@
 -- A record that passes 1 to 6 has 78 + 8N bytes, in whichever order its parts stand.
-use Prim.Native.Nat.{ℕ, zero, suc, _+_, _*_, _≤_, _<_}
-use mathlib.Core.Path.{_≡_, refl, sym, ap, _∙_}
+use Prim.Native.Nat.{ℕ, _+_, _*_, _≤_, _<_}
+use mathlib.Core.Path.{_≡_, sym, ap, _∙_}
 use mathlib.Core.List.{List}
-use mathlib.Core.Bool.{Bool, true, false, cond, not, _&&_, and-eq-true-iff}
+use mathlib.Core.Bool.{Bool, true, false, cond, _&&_, and-eq-true-iff}
 use native.Mathlib.Omega.{arith}
 use borrow.Author.Tests.{eqb-true, not-false}
 use lib.Dec.{eqb, leb}
 use lib.ListN.{length}
 use Rattle.numbers.specs.Numbers.{u8At, u16At}
 use Rattle.chain.specs.declared.Width.the-variants.{Two}
-use Rattle.chain.specs.Chain.{numberAt, offsetOf, lengthOf, bound, allFollow, chained}
+use Rattle.chain.specs.Chain.{numberAt, offsetOf, bound, allFollow, chained}
 use Rattle.chain.proofs.Laws.{follow}
 use Rattle.joint.specs.Layout.{pairLength, kindOfPair, pairOfKind, partOfKind}
 use Rattle.joint.specs.Refusal.{refusal4, oneIf, once, refusal5, positionsLength, refusal6}

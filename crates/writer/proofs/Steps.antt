@@ -1,8 +1,8 @@
 -- The writer's answer, by what its tests found one after the other.
-use Prim.Native.Nat.{ℕ, zero, suc, _+_, _*_, _≤_, _<_}
+use Prim.Native.Nat.{ℕ, _+_, _*_, _≤_, _<_}
 use mathlib.Core.Path.{_≡_, refl, sym, ap, _∙_}
 use mathlib.Core.List.{List, [], _∷_, _++_}
-use mathlib.Core.Bool.{Bool, true, false, not, _&&_, _||_, false≢true, and-false, and-eq-true-iff}
+use mathlib.Core.Bool.{Bool, true, false, not, _&&_, _||_, false≢true, and-eq-true-iff}
 use native.Mathlib.Omega.{arith}
 use borrow.Author.Tests.{lt-ltb, le-ltb, ltb-false, eq-eqb, ne-eqb, eqb-true}
 use lib.Dec.{ltb, eqb}
@@ -17,7 +17,7 @@ use Rattle.writer.specs.declared.Fields.{Fields}
 use Rattle.writer.specs.declared.Written.{Written}
 use Rattle.writer.specs.Write.{valuesFrom, versionUnknown, fieldsUnsigned, listsAlike, writerTests, writerNumber, writtenOf, bufferAfter, Wrote}
 use Rattle.put.specs.Front.{Room}
-use Rattle.writer.specs.Working.{fitsTwoBytes, fieldsFit, FieldsFit}
+use Rattle.writer.specs.Working.{fieldsFit, FieldsFit}
 use Rattle.put.proofs.Lengths.{bytes-length}
 use Rattle.writer.proofs.Fitting.{fields-fit, fields-within, lists-within, version-fits, fields-unsigned}
 

@@ -1,9 +1,8 @@
 -- Nobody needs to believe this: what the writer's steps hand to one another. `write` is equal to `writtenOf` and `bufferAfter`.
-use Prim.Native.Nat.{ℕ, _+_, _*_, _≤_}
+use Prim.Native.Nat.{_+_, _*_, _≤_}
 use mathlib.Core.Path.{_≡_}
 use mathlib.Core.List.{List}
 use mathlib.Core.Bool.{Bool, true, _&&_}
-use lib.ListN.{length}
 use lib.IntN.{ℤ, pos}
 use Rattle.numbers.specs.Numbers.{betweenZ}
 use Rattle.writer.specs.declared.MemberFields.{MemberFields}
