@@ -14,8 +14,8 @@
 
 #define BATCHES 41
 #define BATCH_NS 4000000.0
-#define TIMED 5
-#define JOINTS 6 /* the timed ones, and one that is not timed */
+#define TIMED 7
+#define JOINTS 8 /* the timed ones, and one that is not timed */
 
 static const struct {
     const char *name;
@@ -142,11 +142,18 @@ static void write_records(struct record r[JOINTS])
     static const int32_t stairs[2][7] = {
         {5, 0, 1000, -2000, -2000, 90000, 90000},
         {2, 1, 1200, -2000, -20000, 90000, 90000}};
+    static const int32_t roomy[2][7] = {
+        {1, 0, 600, -90000, -90000, 90000, 90000},
+        {1, 0, 800, -90000, -90000, 90000, 90000}};
     static const int32_t mixed[2][7] = {
         {4, 0, 500, -2000, -2000, 20000, 8000},
         {9, 1, 700, -2000, -20000, 8000, 8000}};
-    int32_t along[64][2], grid[64][2], closing[64][2], climbing[64][2] = {{0, 0}};
+    int32_t one[64][2], near[64][2], along[64][2], grid[64][2], closing[64][2], climbing[64][2] = {{0, 0}};
     for (int i = 0; i < 64; i++) {
+        one[i][0] = near[i][0] = 600 * i - 19000;
+        one[i][1] = 0;
+        /* less than d further across than the one before: 63 rows of two */
+        near[i][1] = 100 * i;
         along[i][0] = 600 * (i % 8);
         along[i][1] = 360 * (i / 8);
         grid[i][0] = 650 * (i % 8);
@@ -154,7 +161,7 @@ static void write_records(struct record r[JOINTS])
         /* each row closer than the one before it */
         closing[i][0] = (900 - 30 * (i / 8)) * (i % 8) + i / 8;
         closing[i][1] = 610 * (i / 8);
-        /* a stair: 63 rows of two in all, each step shorter than the one before it */
+        /* by turns along x and y, each step shorter than the one before it: 63 rows of two in all */
         for (int a = 0; a < 2 && i > 0; a++)
             climbing[i][a] = climbing[i - 1][a] + (i % 2 != a ? 1500 - 14 * i : 0);
     }
@@ -163,7 +170,9 @@ static void write_records(struct record r[JOINTS])
     write_record(&r[2], "64, skew, crossed grains", 100000, 1, crossed, 12, 3, 64, grid, 120000, -170000);
     write_record(&r[3], "64, skew, rows all unlike", 100000, 1, wide, 12, 3, 64, closing, 120000, -170000);
     write_record(&r[4], "64, skew, shrinking stair", 100000, 1, stairs, 12, 3, 64, climbing, 120000, -170000);
-    write_record(&r[5], "64, skew, oak in softwood", 0, 2, mixed, 12, 1, 64, grid, 120000, -170000);
+    write_record(&r[5], "64, one row", 100000, 2, roomy, 12, 1, 64, one, 200000, 0);
+    write_record(&r[6], "64, stair within reach", 100000, 2, roomy, 12, 1, 64, near, 200000, 0);
+    write_record(&r[7], "64, skew, oak in softwood", 0, 2, mixed, 12, 1, 64, grid, 120000, -170000);
 }
 
 static double now_ns(void)

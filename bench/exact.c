@@ -276,38 +276,57 @@ static void capacity(mpz_t r, const struct joint *j)
     mpz_clears(n1, d1, n2, d2, cross1, cross2, whole, a, b, NULL);
 }
 
+/* A dowel's place in a member. */
+struct place {
+    int32_t across, along;
+};
+
+static int by_across(const void *a, const void *b)
+{
+    int32_t x = ((const struct place *)a)->across, y = ((const struct place *)b)->across;
+    return (x > y) - (x < y);
+}
+
 static int order(const void *a, const void *b)
 {
     int32_t x = *(const int32_t *)a, y = *(const int32_t *)b;
     return (x > y) - (x < y);
 }
 
+/* The least distance along of n > 1 dowels. */
+static unsigned long least_distance(const struct place *p, unsigned n)
+{
+    int32_t along[64];
+    for (unsigned i = 0; i < n; i++)
+        along[i] = p[i].along;
+    qsort(along, n, sizeof along[0], order);
+    unsigned long least = (unsigned long)(along[1] - along[0]);
+    for (unsigned i = 2; i < n; i++)
+        if ((unsigned long)(along[i] - along[i - 1]) < least)
+            least = (unsigned long)(along[i] - along[i - 1]);
+    return least;
+}
+
 /* e := the least effective number over n of a member's rows in whole 1/PARTS, rounded down.  A row's share is the
- * twentieth root of a1^5/(n² (130 d)^5): the least a1^5/n² is found first, and one root taken. */
+ * twentieth root of a1^5/(n² (130 d)^5): the least a1^5/n² is found first, and one root taken.  In across order a row is
+ * a stretch narrower than d that reaches further up than the one before. */
 static void share(mpz_t e, const struct joint *j, unsigned g)
 {
-    const int32_t *along = j->at[g], *across = j->at[1 - g];
+    struct place p[64];
     unsigned long least_n = 0, least_a1 = 0;
+    unsigned end = 0;
     mpz_t here, least;
     mpz_inits(here, least, NULL);
-    for (unsigned i = 0; i < j->n; i++) {
-        int32_t row[64];
-        unsigned long n = 0;
-        unsigned l = 0;
-        while (across[l] != across[i])
-            l++;
-        if (l < i)
+    for (unsigned i = 0; i < j->n; i++)
+        p[i] = (struct place){j->at[1 - g][i], j->at[g][i]};
+    qsort(p, j->n, sizeof p[0], by_across);
+    for (unsigned i = 0; end < j->n; i++) {
+        unsigned before = end;
+        while (end < j->n && p[end].across - p[i].across < (int32_t)(10 * j->d))
+            end++;
+        if (end == before || end - i < 2)
             continue;
-        for (; l < j->n; l++)
-            if (across[l] == across[i])
-                row[n++] = along[l];
-        if (n < 2)
-            continue;
-        qsort(row, n, sizeof row[0], order);
-        unsigned long a1 = (unsigned long)(row[1] - row[0]);
-        for (unsigned long k = 2; k < n; k++)
-            if ((unsigned long)(row[k] - row[k - 1]) < a1)
-                a1 = (unsigned long)(row[k] - row[k - 1]);
+        unsigned long n = end - i, a1 = least_distance(p + i, end - i);
         if (least_n != 0) {
             mpz_ui_pow_ui(here, a1, 5);
             mpz_mul_ui(here, here, least_n * least_n);

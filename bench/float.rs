@@ -232,30 +232,34 @@ fn capacity(j: &Joint) -> f64 {
     first.min(second).min(third)
 }
 
-// The least effective number over n of the rows of a member.
+// The least effective number over n of the rows of a member. The dowels are put in order along once. A row is all dowels
+// less than d above its lowest one; where such dowels are no row, they are part of one, whose share is no greater.
 fn share(j: &Joint, m: &Member) -> f64 {
-    let (along, across) = if m.grain == 0 { (&j.x[..j.n], &j.y[..j.n]) } else { (&j.y[..j.n], &j.x[..j.n]) };
+    let (along, across) = if m.grain == 0 { (&j.x, &j.y) } else { (&j.y, &j.x) };
+    let mut dowels = [(0f64, 0f64); 64];
+    for i in 0..j.n {
+        dowels[i] = (along[i], across[i]);
+    }
+    let dowels = &mut dowels[..j.n];
+    dowels.sort_unstable_by(|p, q| p.0.total_cmp(&q.0));
+    let d = 10. * j.d;
     let mut least: f64 = 1.;
     for i in 0..j.n {
-        if across[..i].contains(&across[i]) {
+        let low = dowels[i].1;
+        if dowels[..i].iter().any(|p| p.1 == low) {
             continue;
         }
-        let mut row = [0f64; 64];
-        let mut n = 0;
-        for l in i..j.n {
-            if across[l] == across[i] {
-                row[n] = along[l];
+        let (mut n, mut a1, mut last) = (0, f64::INFINITY, f64::NEG_INFINITY);
+        for &(here, side) in dowels.iter() {
+            if low <= side && side < low + d {
                 n += 1;
+                a1 = a1.min(here - last);
+                last = here;
             }
         }
-        if n < 2 {
-            continue;
+        if n > 1 {
+            least = least.min((n as f64).powf(-0.1) * (a1 / (13. * d)).powf(0.25));
         }
-        let row = &mut row[..n];
-        row.sort_unstable_by(f64::total_cmp);
-        let a1 = row.windows(2).map(|w| w[1] - w[0]).fold(f64::INFINITY, f64::min);
-        let effective = (n as f64).powf(0.9) * (a1 / (130. * j.d)).powf(0.25);
-        least = least.min(effective / n as f64);
     }
     least
 }

@@ -1,5 +1,5 @@
 #!/usr/bin/env python3
-"""Writes data/, args and stdout of this folder: the joints of document 01, of request A1 and some more, and the line of each.
+"""Writes data/, args and stdout of this folder: the joints of document 01, of requests A1 and A3 and some more, and the line of each.
 
 Refusals come from the reference engineer. Figures are worked out here with exact integers, as docs/DECISIONS.md says which figure
 within its bracket is reported, and are held to the engineer's brackets.
@@ -66,8 +66,9 @@ def figures(record):
     shares = []
     for m in members:
         share = 10000
-        for i in range(n):
-            row = sorted(q[m[1]] for q in places if q[1 - m[1]] == places[i][1 - m[1]])
+        for low in {q[1 - m[1]] for q in places}:
+            # 02, A3: a row lies within d above its lowest dowel; what lies there and is no row deducts no more than one that holds it
+            row = sorted(q[m[1]] for q in places if low <= q[1 - m[1]] < low + 10 * d)
             if len(row) > 1:
                 a1 = min(b - a for a, b in zip(row, row[1:]))
                 share = min(share, root(10 ** 80 * a1 ** 5, len(row) ** 2 * (130 * d) ** 5, 20))
@@ -101,6 +102,7 @@ def main():
     joints["most-bytes"] = b[:18] + struct.pack("<H", 4096 - 99) + b[20:] + bytes(4096 - len(b))    # its last part fills it
     joints["too-long"] = b + bytes(4097 - len(b))
     joints.update(records.hardwood_joints())
+    joints.update(records.row_joints())
     (HERE / "data").mkdir(exist_ok=True)
     for old in (HERE / "data").iterdir():
         old.unlink()

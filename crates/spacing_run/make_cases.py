@@ -1,7 +1,7 @@
 #!/usr/bin/env python3
 """Writes stdin and stdout of this folder, run there: joints, and what exact integers give for them.
 
-Works from document 01 alone: distances as integers, cosines through their squares, shares by their 20th power.
+Works from document 01 and 02's A3 alone: distances as integers, cosines through their squares, shares by their 20th power.
 """
 from math import isqrt
 from fractions import Fraction
@@ -47,11 +47,10 @@ def verdict_of(which, member, d, force, dowels):
 
 def share_of(member, d, dowels):
     grain = member[0]
-    rows = {}
-    for p in dowels:
-        rows.setdefault(dot(1 - grain, p), []).append(dot(grain, p))
     best = 10000
-    for row in rows.values():
+    for lowest in dowels:
+        # all dowels less than d above this one: each row (02, A3) is such a set, and any other is part of a row, whose share is no greater
+        row = [dot(grain, p) for p in dowels if 0 <= dot(1 - grain, p) - dot(1 - grain, lowest) < 10 * d]
         n = len(row)
         if n == 1:
             continue
@@ -144,8 +143,9 @@ case(12, (3000, 4000), wide(0), wide(1), [(0, 0), (600, 0), (1200, 0), (0, 700),
 # rows: n = 1; a1 = 13 d and beside it; n = 32 with a1 = 3.25 d (share 1/2 exactly) and a1 = 52 d
 for d in (6, 10, 30):
     for a1 in (130 * d - 1, 130 * d, 130 * d + 1, 30 * d, 160 * d):
-        for n in (1, 2, 3):
+        for n in (2, 3):
             case(d, (0, 1), wide(0), wide(1), [(k * a1, 0) for k in range(n)])
+    case(d, (0, 1), wide(0), wide(1), [(0, 0)])
 for d, tenths in ((12, 390), (12, 389), (12, 391), (8, 4160), (8, 4159)):
     case(d, (0, 1), wide(0), wide(1), [(k * tenths - 60000, 0) for k in range(32)])
 # 001, Table 13-2, row of 0 degrees, a1 = 5 d, n from 2 to 10: n_ef in hundredths and n_ef/n in thousandths, typed from the print.
@@ -157,12 +157,21 @@ for near in (560, 640):
     long, short = [(k * 700, 0) for k in range(3)], [(k * near, 900) for k in range(2)]
     for dowels in (long + short, short + long):
         case(10, (0, 1), wide(0), wide(1), dowels)
-# a stair: 63 rows of two in all, each step shorter than the one before it
+# by turns along x and y, each step shorter than the one before it: 63 rows of two in all
 stair = [(0, 0)]
 for k in range(1, 64):
     step = 1500 - 14 * k
     stair.append((stair[-1][0] + step * (k % 2), stair[-1][1] + step * (1 - k % 2)))
 case(12, (120000, -170000), wide(0), wide(1), stair)
+# rows of dowels out of line: less than d apart, d apart; a dowel in two rows, drawn upwards and downwards; the closest pair neighbours
+# neither in the list nor across; grains that differ; each of 64 within reach of the next
+for apart, share in ((119, 7347), (120, 10000)):
+    assert case(12, (1000, 0), wide(0), wide(0), [(0, 0), (600, apart)])[4:] == (share, share)
+for way in (1, -1):
+    assert case(12, (1000, 0), wide(0), wide(0), [(0, 0), (3000, way * 100), (3600, way * 200)])[4:] == (7347, 7347)
+assert case(12, (1000, 0), wide(0), wide(0), [(0, 0), (3000, 60), (600, 119), (4000, 120)])[4:] == (7055, 7055)
+assert case(12, (3, 4), wide(0), wide(1), [(0, 0), (900, 100), (100, 600), (1000, 700)], (0, 0, 0, 0))[4:] == (8131, 7347)
+assert case(12, (1000, 0), wide(0), wide(0), [(k * 600 - 19000, k * 100) for k in range(64)])[4:] == (7347, 7347)
 # 64 dowels
 case(6, (1000, 0), wide(0), wide(0), [(k % 8 * 300, k // 8 * 180) for k in range(64)])
 case(6, (1000, 0), wide(0), wide(0), [(k % 8 * 300, k // 8 * 180) for k in range(63)] + [(7 * 300 - 1, 7 * 180)])

@@ -1,4 +1,4 @@
-"""The engineer: an exact reference for document 01 with requests A1 and A2 of 02, written from these documents alone.
+"""The engineer: an exact reference for document 01 with requests A1 to A3 of 02, written from these documents alone.
 
 Whole numbers and fractions only.  Reference(record) settles the refusal or the
 exact quantities once; its check(line) says whether an output line is right.
@@ -278,6 +278,36 @@ def _twentieth_root(n):
     return _fifth_root(isqrt(isqrt(n)))
 
 
+def rows(j, m):
+    """The rows of member m (02, A3), each as a set of dowel numbers from 0: each two of its dowels differ across by less
+    than d, and no other dowel can be added."""
+    across = [xy[1 - j.grain[m]] for xy in j.dowels]
+    near = [{k for k, other in enumerate(across) if k != i and abs(other - c) < 10 * j.d} for i, c in enumerate(across)]
+    found = []
+
+    def extend(row, may, barred):
+        """The rows that hold all of row, some of may and none of barred; may and barred: what is near to all of row."""
+        if not may and not barred:
+            found.append(row)
+        if not may:
+            return
+        # a row without the pivot holds a dowel that is not near to it
+        pivot = max(may | barred, key=lambda k: len(may & near[k]))
+        for i in sorted(may - near[pivot]):
+            extend(row | {i}, may & near[i], barred & near[i])
+            may = may - {i}
+            barred = barred | {i}
+
+    extend(frozenset(), set(range(len(across))), set())
+    return found
+
+
+def least_distance(along):
+    """a1 of the dowels at these places; 0 for a lone one."""
+    along = sorted(along)
+    return min((b - a for a, b in zip(along, along[1:])), default=0)
+
+
 class Exact:
     """The exact quantities of an accepted joint."""
 
@@ -285,10 +315,10 @@ class Exact:
         self.joint = j
         d = j.d
         f2 = j.fx * j.fx + j.fy * j.fy
-        bearing, along = [], []
+        bearing, force_along = [], []
         for m in (0, 1):
             a, c = components(j, m)
-            along.append(abs(a))
+            force_along.append(abs(a))
             kind, density = WOOD[j.cls[m]]
             base, by_d = K90[kind]
             k = (base + by_d * d) * c * c + 1000 * a * a    # 1000 f2 (k90 sin2 + cos2)
@@ -317,15 +347,8 @@ class Exact:
         # rows: (n, a1) of each member, one of a kind; a1 is 0 where n is 1
         self.rows = []
         for m in (0, 1):
-            by_across = {}
-            for x, y in j.dowels:
-                a, c = (x, y) if j.grain[m] == 0 else (y, x)
-                by_across.setdefault(c, []).append(a)
-            kinds = set()
-            for row in by_across.values():
-                row.sort()
-                kinds.add((len(row), min((b - a for a, b in zip(row, row[1:])), default=0)))
-            self.rows.append(kinds)
+            along = [xy[j.grain[m]] for xy in j.dowels]
+            self.rows.append({(len(row), least_distance([along[i] for i in row])) for row in rows(j, m)})
 
         h = (KMOD_3 if j.service == 3 else KMOD_1_2)[j.duration]
         count = len(j.dowels)
@@ -334,7 +357,7 @@ class Exact:
         # the greatest of sqrt(f2) and c n / effective number, to the 20th power
         top, bottom = f2 ** 10, 1
         for m in (0, 1):
-            c20 = along[m] ** 20
+            c20 = force_along[m] ** 20
             for n, a1 in self.rows[m]:
                 num, den = c20, 1
                 if n > 1 and n * n * (130 * d) ** 5 > a1 ** 5:

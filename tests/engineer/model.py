@@ -487,19 +487,44 @@ class Model:
 
     def rows(self, m):
         """(n, a1) of the rows of member m with more than one dowel"""
-        rows = {}
-        for xy in self.xy:
-            a, c = self.row_axes(m, xy)
-            rows.setdefault(c, []).append(a)
-        out = []
-        for row in rows.values():
-            if len(row) > 1:
-                row.sort()
-                out.append((len(row), self.a1([b - a for a, b in zip(row, row[1:])])))
+        return [(self.number_in(row), self.a1(self.gaps(m, row))) for row in self.row_sets(m) if len(row) > 1]
+
+    def row_sets(self, m):
+        """the rows of member m (02, A3) as dowel numbers in across order: from each dowel as far up as the reach goes,
+        where that is further up than from the dowel before"""
+        order = self.across_order(m)
+        out, end, upto = [], 0, 0
+        for first, low in enumerate(order):
+            while upto < self.n and self.near(self.across(m, order[upto]) - self.across(m, low)):
+                upto += 1
+            if upto > end:
+                out.append(order[first:upto])
+                end = upto
         return out
+
+    def across_order(self, m):
+        return sorted(range(self.n), key=lambda k: (self.across(m, k), k))
+
+    def near(self, distance):
+        """dowels this far apart across, 0 or more, may stand in one row"""
+        return distance < 10 * self.d
+
+    def along(self, m, k):
+        return self.row_axes(m, self.xy[k])[0]
+
+    def across(self, m, k):
+        return self.row_axes(m, self.xy[k])[1]
 
     def row_axes(self, m, xy):
         return self.axes(m, xy)
+
+    def number_in(self, row):
+        return len(row)
+
+    def gaps(self, m, row):
+        """from each dowel to the next along"""
+        places = sorted(self.along(m, k) for k in row)
+        return [b - a for a, b in zip(places, places[1:])]
 
     def a1(self, gaps):
         return min(gaps)

@@ -83,6 +83,14 @@ def square(step):
     return [(0, 0), (step, 0), (0, step), (step, step)]
 
 
+def roomy(dowels, grains=(0, 0), **change):
+    """Joint B with other dowels, both members 18 m long and wide."""
+    v = joint_b(dowels=list(dowels), **change)
+    for m, grain in zip(v["members"], grains):
+        m.update(grain=grain, outline=[-90000, -90000, 90000, 90000])
+    return v
+
+
 def oak_post():
     """Two beams of C24, grain x, on the post of D30 between them, grain y, which they press down."""
     v = joint_b(dowels=square(600), force=(0, -15000))
@@ -92,8 +100,8 @@ def oak_post():
 
 
 def samples():
-    """'Joints to try' with the line or bounds printed there, and a joint of softwood and hardwood with bounds from the
-    printed formulas in decimals: (name, record, line or bounds).
+    """'Joints to try' with the line or bounds printed there; a joint of softwood and hardwood, and one whose dowels stand a
+    hair out of line, with bounds from the printed formulas in decimals: (name, record, line or bounds).
     Bounds: (verdict, U range or None, C range or None, E range or None)."""
     b = write(joint_b())
     pair = joint_b(force=(3000, 4000), dowels=[(0, 0), (504, 0)])
@@ -119,6 +127,8 @@ def samples():
         ("nineteen-bytes", b[:19], "refused 1 0 0 0\n"),
         ("pairs-exchanged", exchanged, "refused 4 0 0 0\n"),
         ("oak-post", write(oak_post()), ("fits", (7664, 7703), (5409, 5410), (7346, 7347))),
+        ("out-of-line", write(roomy([(600 * k, k % 2) for k in range(8)], force=(50000, 0))),
+         ("overloaded", (10669, 10724), (7440, 7441), (6395, 6396))),
     ]
 
 
@@ -317,9 +327,9 @@ def scatter_values(r):
     for _ in range(some_count(r)):
         x, y = r.randint(0, span), r.randint(0, span)
         if places and r.random() < 0.4:
-            x = r.choice(places)[0]
+            x = r.choice(places)[0] + off_line(r, v["d"])
         if places and r.random() < 0.4:
-            y = r.choice(places)[1]
+            y = r.choice(places)[1] + off_line(r, v["d"])
         good = True
         for px, py in places:
             d = abs(px - x), abs(py - y)
@@ -336,9 +346,75 @@ def scatter_values(r):
     return v
 
 
+def off_line(r, d):
+    """How far a dowel stands out of line: not at all, a hair, or about d."""
+    return r.choice((0, 0, 0, 1, -1, r.randint(-10 * d, 10 * d), 10 * d - 1, 10 * d, 1 - 10 * d, -10 * d))
+
+
+def some_across(r, d, count):
+    """count places across the grain: a hair out of line, in stairs, within a few diameters."""
+    reach = 10 * d
+    way = r.random()
+    if way < 0.15:
+        wide = r.choice((1, 1, 2, 5, reach // 4, reach - 1, reach))
+        return [r.randint(0, wide) for _ in range(count)]
+    if way < 0.25:
+        step = r.choice((1, reach - 1, reach, reach + 1, r.randint(1, reach)))
+        return [k % 2 * step for k in range(count)]
+    if way < 0.45:
+        # a stair; the last of these just holds all in one row, or just not
+        step = r.choice((1, 2, reach // 4, reach // 2, (reach - 1) // 2, reach - 1, reach, r.randint(1, reach),
+                         (reach - 1) // max(1, count - 1), reach // max(1, count - 1)))
+        return [k * step for k in range(count)]
+    if way < 0.65:
+        places = [0]
+        while len(places) < count:
+            places.append(places[-1] + r.choice((0, 0, 1, reach // 2, reach - 1, reach, r.randint(1, reach), 3 * reach)))
+        return places
+    if way < 0.8:
+        span = reach * r.randint(1, 5)
+        return [r.randint(0, span) for _ in range(count)]
+    if way < 0.9:
+        marks = [k * reach // 2 + by for k in range(r.randint(2, 6)) for by in (-1, 0, 1)]
+        return [r.choice(marks) for _ in range(count)]
+    lines = [r.randint(0, 4 * reach) for _ in range(r.randint(2, 4))]
+    return [r.choice(lines) for _ in range(count)]
+
+
+def unaligned_values(r):
+    """A joint that keeps to Table 8, its dowels out of line: in blocks, each with places along far enough apart."""
+    v = some_values(r)
+    d, axis = v["d"], r.choice(v["members"])["grain"]
+    least, pitch = steps(v)[axis], steps(v)[1 - axis]
+    count = some_count(r)
+    blocks = r.choice((1, 1, 1, 2, r.randint(1, 4), 8)) if count > 1 else 1
+    blocks = min(blocks, count)
+    each = count // blocks
+    spare = max(1, (140000 - least * each) // each)
+    across = some_across(r, d, each)
+    places, low = [], 0
+    for _ in range(blocks):
+        if r.random() < 0.5:
+            r.shuffle(across)               # neighbours along are then no neighbours across
+        at = off_line(r, d)
+        for c in across:
+            places.append((at, low + c))
+            at += least + min(spare, r.choice((0, 0, 0, 1, r.randrange(20 * d), r.randrange(130 * d))))
+        low += max(across) - min(across) + pitch + r.choice((0, 0, 1, r.randrange(20 * d)))
+    if low > 150000:
+        places = places[:each]
+    if r.random() < 0.4:
+        places = [(a, -c) for a, c in places]
+    if r.random() < 0.5:
+        r.shuffle(places)
+    v["dowels"] = places if axis == 0 else [(c, a) for a, c in places]
+    outlines(v, lambda m, name: r.choice((0, 1, r.randrange(0, 5000), r.randrange(0, 300))))
+    return v
+
+
 def near_one(r):
     """A joint whose use is close to 1: the force is scaled in its own direction."""
-    v = grid_values(r)
+    v = grid_values(r) if r.random() < 0.6 else unaligned_values(r)
     fx, fy = v["force"]
     g = gcd(fx, fy)
     fx, fy = fx // g, fy // g
@@ -522,11 +598,13 @@ def generate(seed, index):
     r = Random(seed * 1000003 + index)
     way = r.random()
     order = r.choice(ORDERS)
-    if way < 0.34:
+    if way < 0.21:
         label, v = "grid", grid_values(r, tight=r.random() < 0.3)
-    elif way < 0.42:
+    elif way < 0.41:
+        label, v = "unaligned", unaligned_values(r)
+    elif way < 0.49:
         label, v = "scatter", scatter_values(r)
-    elif way < 0.54:
+    elif way < 0.61:
         label, v = "near one", near_one(r)
     elif way < 0.76:
         label, v = "at limit", at_limit(r)
@@ -562,7 +640,7 @@ def generate(seed, index):
                 data[r.randrange(len(data))] = r.choice((0, 1, 255, r.randrange(256)))
             return label, bytes(data)
         return "wrapping", wrapping(r, data)
-    if label in ("grid", "near one", "scatter", "at limit"):
+    if label in ("grid", "unaligned", "near one", "scatter", "at limit"):
         move(v, r)
     return label, write(v, order)
 
@@ -1131,11 +1209,121 @@ def force_records():
     yield "uneven row", write(v)
 
 
+def turned(dowels):
+    """The same with x and y exchanged."""
+    return [(y, x) for x, y in dowels]
+
+
+def row_joints():
+    """Request A3: (name, record).  Joint B otherwise in wide outlines, with rows that 02 makes of dowels out of line; drawn as
+    listed, with y negated, and with the grain along y; then crossed grains."""
+    for name, dowels, force in (
+            ("in-line", [(600 * k, 0) for k in range(8)], 50000),
+            ("hair-stair", [(600 * k, k) for k in range(8)], 50000),                # each a tenth further than the one before
+            ("zigzag-119", [(600 * k, k % 2 * 119) for k in range(8)], 50000),      # one row of 8
+            ("zigzag-120", [(600 * k, k % 2 * 120) for k in range(8)], 50000),      # two of 4
+            ("steps-100", [(0, 0), (3000, 100), (3600, 200)], 20000),               # rows of 1 and 2, of 2 and 3
+            ("steps-100-low", [(0, 0), (600, 100), (3600, 200)], 20000),
+            ("steps-60", [(0, 0), (600, 60), (1200, 120)], 20000),                  # two rows of 2
+            ("steps-59", [(0, 0), (600, 59), (1200, 118)], 20000),                  # one of 3
+            ("apart-119", [(0, 0), (600, 119)], 10000),                             # one row
+            ("apart-120", [(0, 0), (600, 120)], 10000),                             # two
+            ("closest-pair", [(0, 0), (3000, 60), (600, 119), (4000, 120)], 20000),  # neighbours neither here nor across
+            ("long-stair", [(600 * k - 19000, 100 * k - 3000) for k in range(64)], 400000),
+            ("flat-stair", [(600 * k - 19000, 10 * k) for k in range(64)], 400000),
+            ("staggered", [(600 * (k % 4) + 2400 * (k // 16), 90 * (k % 16)) for k in range(64)], 400000)):
+        for drawn, places, grain in (("", dowels, 0), ("-down", [(x, -y) for x, y in dowels], 0),
+                                     ("-grain-y", turned(dowels), 1)):
+            yield "rows-" + name + drawn, write(roomy(places, (grain, grain), force=(0, force) if grain else (force, 0)))
+    for name, dowels in (("square", [(0, 0), (900, 100), (100, 600), (1000, 700)]),
+                         ("angle", [(0, 0), (700, 50), (1400, 110), (40, 1500), (90, 2300)])):
+        for g1, g2 in ((0, 1), (1, 0)):
+            for force in ((12000, 16000), (16000, 12000)):
+                yield ("rows-crossed-%s-%s-%s-%d-%d" % (name, "xy"[g1], "xy"[g2], *force),
+                       write(roomy(dowels, (g1, g2), force=force)))
+
+
+def cost_joints():
+    """64 dowels, for what a call costs: (name, record).  One row; 8 rows of 8; a grid with crossed grains; stairs, each dowel
+    within reach of the next, of the next 2 and of the next 11, and one whose windows are each closer than those before.
+    'Backwards' is the order of the list."""
+    def long_row(step, way=1, shorter=0):
+        # the last distance along is 5d, the least that a force along allows
+        places = [(600 * k - 19000 + shorter * (125 - k) * k // 2, step * k) for k in range(64)]
+        return write(roomy(places[::way], force=(200000, 0)))
+    yield "one row of 64", long_row(0)
+    yield "one row of 64, backwards", long_row(0, -1)
+    yield "8 rows of 8", write(roomy([(600 * (k % 8), 360 * (k // 8)) for k in range(64)], force=(200000, 0)))
+    yield "8 by 8, crossed grains", write(roomy([(650 * (k % 8), 610 * (k // 8)) for k in range(64)], (0, 1),
+                                                force=(120000, -170000)))
+    for step in (100, 50, 10):
+        yield "stair of 64, steps of %d" % step, long_row(step)
+    yield "stair of 64, backwards", long_row(100, -1)
+    yield "stair of 64, closing", long_row(100, shorter=14)
+
+
+def row_records():
+    """Rows that 02's A3 makes: at and beside d, over diameters and grains; three dowels in all orders; stairs, zigzags."""
+    for joints in (row_joints, cost_joints):
+        for name, data in joints():
+            yield "rows " + name, data
+
+    def laid(axis, along, across, grains, force, **change):
+        """Dowels by places along an axis and across it; the force by components along and across."""
+        dowels = list(zip(along, across))
+        if axis == 1:
+            dowels, force = turned(dowels), force[::-1]
+        return write(roomy(dowels, grains, force=force, **change))
+    for d in range(6, 31):
+        for axis in (0, 1):
+            for apart in (10 * d - 1, 10 * d, 10 * d + 1, 1 - 10 * d, -10 * d):
+                for grains, force in (((axis, axis), (10000, 0)), ((axis, 1 - axis), (8000, 6000)),
+                                      ((1 - axis, axis), (-8000, 6000))):
+                    yield "rows d %d, %d apart" % (d, apart), laid(axis, (0, 50 * d), (0, apart), grains, force, d=d)
+    for d in (6, 12, 13, 30):
+        for step in (5 * d - 1, 5 * d, 10 * d - 1, 10 * d):
+            for along in permutations((0, 50 * d, 300 * d)):
+                for axis in (0, 1):
+                    for way in (1, -1):
+                        yield "rows of three, steps of %d" % step, laid(
+                            axis, along, (0, way * step, 2 * way * step), (axis, axis), (20000, 0), d=d)
+    for order in permutations([(0, 0), (3000, 60), (600, 119), (4000, 120)]):
+        for way in (1, -1):
+            for axis in (0, 1):
+                yield "rows of four, all orders", laid(axis, [a for a, _ in order], [way * c for _, c in order],
+                                                       (axis, axis), (20000, 0))
+    for d in (6, 12, 30):
+        reach = 10 * d
+        for n in (3, 8, 9, 16, 33, 64):
+            steps_up = {1, (reach - 1) // (n - 1), reach // (n - 1), reach // 4, reach // 2, reach - 1, reach}
+            for step in sorted(steps_up - {0}):
+                for mixed in (False, True):
+                    for axis, grains in ((0, (0, 0)), (1, (1, 1)), (0, (0, 1)), (1, (0, 1))):
+                        places = [(50 * d * k + k * k - 48000, step * k) for k in range(n)]
+                        if mixed:
+                            Random(n * step).shuffle(places)
+                        yield "rows in stairs of %d, steps of %d" % (n, step), laid(
+                            axis, [a for a, _ in places], [c for _, c in places], grains, (3000 * n, 1000 * n), d=d)
+            for high in (1, reach - 1, reach, reach + 1):
+                yield "rows in zigzag of %d, %d high" % (n, high), laid(
+                    0, [50 * d * k - 48000 for k in range(n)], [k % 2 * high for k in range(n)], (0, 0), (3000 * n, 0), d=d)
+    # lines beside one another that share no place along
+    for lines in (2, 3, 4, 5):
+        for pitch in (1, 60, 100, 119, 120, 180, 359, 360):
+            for axis in (0, 1):
+                yield "rows in %d lines, %d apart" % (lines, pitch), laid(
+                    axis, [600 * k for k in range(16)], [k % lines * pitch for k in range(16)], (axis, axis), (60000, 0))
+    # as far apart along as can be
+    for apart in (0, 1, 119, 120):
+        for n in (2, 3):
+            yield "rows far apart", laid(0, [-88000, 88000, 0][:n], [0, apart, 0][:n], (0, 0), (20000, 0))
+
+
 def systematic():
     for name, data, _ in samples():
         yield "sample " + name, data
     for group in (tie_records, force_records, order_records, field_records, layout_records,
-                  spacing_records, hardwood_records):
+                  spacing_records, hardwood_records, row_records):
         yield from group()
 
 

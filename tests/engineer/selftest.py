@@ -1,10 +1,12 @@
-"""Tests of the engineer itself: against the figures that document 01 prints, a joint of D30 worked out by the formulas, and
-against their sentences taken literally with fractions; of its writer against 02's sentences on A2.
+"""Tests of the engineer itself: against the figures that document 01 prints, a joint of D30 and joints out of line worked out by
+the formulas, and against their sentences taken literally with fractions, A3's with all sets of dowels; of its writer against 02's
+sentences on A2.
 
   selftest.py [--count N] [--seed S]     with N records made by chance
 """
 import argparse
 from fractions import Fraction
+from itertools import combinations
 from math import isqrt
 from random import Random
 import struct
@@ -18,8 +20,29 @@ import written
 DIGITS = 60
 
 
+SUBSETS = 8                 # up to so many dowels all sets of them are tried
+
+
+def is_row(row, across, d):
+    """02, A3: 'any set of dowels whose across coordinates all differ by less than d and to which no other dowel can be added'."""
+    def all_near(some):
+        return all(abs(across[i] - across[k]) < 10 * d for i, k in combinations(some, 2))
+    return bool(row) and all_near(row) and not any(all_near((*row, k)) for k in range(len(across)) if k not in row)
+
+
+def rows_of(across, d):
+    """The rows, as tuples of dowel numbers: of all sets, or where these are too many of those from each dowel upwards, since a
+    row lies within d above its lowest dowel."""
+    dowels = range(len(across))
+    if len(across) <= SUBSETS:
+        some = (row for n in range(1, len(across) + 1) for row in combinations(dowels, n))
+    else:
+        some = {tuple(k for k in dowels if 0 <= across[k] - low < 10 * d) for low in across}
+    return {row for row in some if is_row(row, across, d)}
+
+
 class Literal:
-    """Document 01 word for word, in fractions."""
+    """Document 01 word for word, in fractions, with 02's rows."""
 
     def __init__(self, j):
         self.j = j
@@ -52,9 +75,9 @@ class Literal:
     def rows(self, m):
         """(n, a1) of every row of member m."""
         axis = self.j.grain[m]
-        for c in {xy[1 - axis] for xy in self.j.dowels}:
-            row = [xy[axis] for xy in self.j.dowels if xy[1 - axis] == c]
-            yield len(row), min((abs(a - b) for i, a in enumerate(row) for b in row[:i]), default=0)
+        for row in rows_of([xy[1 - axis] for xy in self.j.dowels], self.j.d):
+            along = [self.j.dowels[i][axis] for i in row]
+            yield len(row), min((abs(a - b) for a, b in combinations(along, 2)), default=0)
 
     def not_below(self, e, n, a1):
         if n == 1:
@@ -157,6 +180,46 @@ def hardwood():
         engineer.WOOD[9] = (kind, 530)
         assert engineer.Reference(data).values().ranges()[1] == said, kind
     engineer.WOOD[9] = kept
+
+
+# joint B otherwise in wide outlines: U and E of rows-.. in records.py
+OUT_OF_LINE = (
+    ("in-line", "overloaded", (10669, 10724), (6395, 6396)), ("hair-stair", "overloaded", (10669, 10724), (6395, 6396)),
+    ("zigzag-119", "overloaded", (10669, 10724), (6395, 6396)), ("zigzag-120", "fits", (8371, 8414), (8151, 8152)),
+    ("steps-100", "fits", (9908, 9958), (7346, 7347)), ("apart-119", "fits", None, (7346, 7347)),
+    ("apart-120", "fits", None, (9999, 10000)), ("closest-pair", "fits", None, (7054, 7055)),
+)
+
+
+def out_of_line():
+    """Request A3: the figures above in each drawing, and the rows themselves."""
+    drawn = dict(records.row_joints())
+    for name, verdict, use, share in OUT_OF_LINE:
+        for way in ("", "-down", "-grain-y"):
+            ref = engineer.Reference(drawn["rows-" + name + way])
+            got_use, _, got_share = ref.values().ranges()
+            assert ref.describe().split()[0] == verdict and use in (None, got_use) and got_share == share, (name, way)
+    j = engineer.Joint()
+    j.d, j.grain = 12, (0, 1)
+    for across, rows in (((0, 100, 200), [{0, 1}, {1, 2}]), ((0, 119), [{0, 1}]), ((0, 120), [{0}, {1}]), ((7,), [{0}]),
+                         ((0, 60, 119, 120), [{0, 1, 2}, {1, 2, 3}]), ((200, 0, 100, 0), [{0, 2}, {1, 2, 3}])):
+        j.dowels = [(600 * k, c) for k, c in enumerate(across)]
+        assert sorted(map(sorted, engineer.rows(j, 0))) == sorted(map(sorted, rows)), across
+
+
+def all_sets(seed, count):
+    """Each set of dowels is one of the reference's rows just if it is one by the text."""
+    r = Random(seed)
+    j = engineer.Joint()
+    for _ in range(count):
+        j.d, j.grain = r.randint(6, 30), (r.randint(0, 1), r.randint(0, 1))
+        n = r.randint(1, SUBSETS if r.random() < 0.9 else 64)
+        axis = j.grain[0]
+        across = records.some_across(r, j.d, n)
+        r.shuffle(across)
+        j.dowels = [(0, c) if axis == 0 else (c, 0) for c in across]
+        rows = [tuple(sorted(row)) for row in engineer.rows(j, 0)]
+        assert len(rows) == len(set(rows)) and set(rows) == rows_of(across, j.d), (j.d, across)
 
 
 def ties():
@@ -294,10 +357,12 @@ def main():
     a = p.parse_args()
     printed()
     hardwood()
+    out_of_line()
+    all_sets(a.seed, 3 * a.count)
     ties()
     spaced, accepted = literal(a.seed, a.count)
-    print("printed figures and ties right; %d spacings and %d joints as the literal text has them"
-          % (spaced, accepted))
+    print("printed figures and ties right; %d spacings, %d joints and the rows of %d more as the literal text has them"
+          % (spaced, accepted, 3 * a.count))
     systematic = sum(1 for _ in values.systematic())
     print("%d records written as the literal text has them" % writing(a.seed, systematic + a.count))
 

@@ -687,13 +687,19 @@ for _c, _other in ((9, 10), (10, 9), (10, 11), (11, 10), (9, 8), (8, 9)):
 # ------------------------------------------------------------------------------ rows
 
 ROWS = "rows"
+
+
+def along_gaps(self, m, row):
+    """from each dowel of the list to the next one in it, along"""
+    places = [self.along(m, k) for k in row]
+    return [abs(b - a) for a, b in zip(places, places[1:])]
+
+
 changed(ROWS, "a1 the greatest distance", a1=lambda self, gaps: max(gaps))
 changed(ROWS, "a1 the mean distance", a1=lambda self, gaps: sum(gaps) // len(gaps))
 changed(ROWS, "a1 the first distance", a1=lambda self, gaps: gaps[0])
 changed(ROWS, "a1 in whole mm", a1=lambda self, gaps: min(gaps) // 10 * 10)
-changed(ROWS, "a1 from dowels in record order", rows=lambda self, m: (lambda rows: [
-    (len(v), min(abs(b - a) for a, b in zip(v, v[1:]))) for v in rows.values() if len(v) > 1])(
-        (lambda d: [d.setdefault(c, []).append(a) for a, c in (self.axes(m, xy) for xy in self.xy)] and d)({})))
+changed(ROWS, "a1 from dowels in record order", gaps=lambda self, m, row: along_gaps(self, m, sorted(row)))
 changed(ROWS, "rows by the along coordinate", row_axes=lambda self, m, xy: self.axes(m, xy)[::-1])
 changed(ROWS, "rows of member 1 for both", row_axes=lambda self, m, xy: self.axes(0, xy))
 changed(ROWS, "rows of member 2 for both", row_axes=lambda self, m, xy: self.axes(1, xy))
@@ -723,6 +729,226 @@ changed(ROWS, "the effective number printed", print_answer=lambda self, u, c, e:
         Model.print_answer(self, u, c, e * self.n))
 changed(ROWS, "the share of all dowels", print_answer=lambda self, u, c, e:
         Model.print_answer(self, u, c, min(10000, e * 101 // 100)))
+
+# ---------------------------------------------------------------- rows of dowels out of line
+
+LINE = "out of line"
+
+
+def at_least_one(self, gaps):
+    """A tenth where two dowels of a wrong row have one place along: an answer and no crash."""
+    return max(1, min(gaps))
+
+
+def limit(name, near):
+    """Another reach of a row."""
+    changed(LINE, name, near=near, a1=at_least_one)
+
+
+limit("at most d for less than d", lambda self, c: c <= 10 * self.d)
+limit("one tenth less than d", lambda self, c: c < 10 * self.d - 1)
+limit("rows as 01 had them: the same across", lambda self, c: c == 0)
+limit("a hair only: less than a millimetre", lambda self, c: c < 10)
+limit("d taken as tenths", lambda self, c: c < self.d)
+limit("less than d/2", lambda self, c: 2 * c < 10 * self.d)
+limit("less than 2d", lambda self, c: c < 20 * self.d)
+limit("less than 3d", lambda self, c: c < 30 * self.d)
+limit("less than 5d", lambda self, c: c < 50 * self.d)
+limit("less than d + 1 mm, the hole", lambda self, c: c < 10 * self.d + 10)
+limit("in whole mm, rounded up", lambda self, c: ceil_div(c, 10) < self.d)
+limit("less than 12 mm whatever d is", lambda self, c: c < 120)
+
+
+def sets(name, row_sets):
+    """Other sets of dowels as rows."""
+    changed(LINE, name, row_sets=row_sets, a1=at_least_one)
+
+
+def cut(order, near):
+    """The list cut where near(row so far, next) fails."""
+    out = []
+    for k in order:
+        if out and near(out[-1], k):
+            out[-1].append(k)
+        else:
+            out.append([k])
+    return out
+
+
+def near_two(self, m, i, k):
+    return self.near(abs(self.across(m, i) - self.across(m, k)))
+
+
+sets("chained neighbours as one row", lambda self, m: cut(
+    self.across_order(m), lambda row, k: near_two(self, m, row[-1], k)))
+sets("cut greedily from the lowest", lambda self, m: cut(
+    self.across_order(m), lambda row, k: near_two(self, m, row[0], k)))
+sets("cut greedily from the highest", lambda self, m: cut(
+    self.across_order(m)[::-1], lambda row, k: near_two(self, m, row[0], k)))
+sets("cut greedily in record order", lambda self, m: cut(
+    range(self.n), lambda row, k: all(near_two(self, m, i, k) for i in row)))
+sets("chained in record order", lambda self, m: cut(
+    range(self.n), lambda row, k: near_two(self, m, row[-1], k)))
+sets("cut greedily along", lambda self, m: cut(
+    sorted(range(self.n), key=lambda k: self.along(m, k)), lambda row, k: all(near_two(self, m, i, k) for i in row)))
+sets("chained along", lambda self, m: cut(
+    sorted(range(self.n), key=lambda k: self.along(m, k)), lambda row, k: near_two(self, m, row[-1], k)))
+
+
+def gathered(self, taken_by):
+    """Each dowel not yet in a row starts one, with those of the rest for which taken_by(it, other)."""
+    rest, out = list(range(self.n)), []
+    while rest:
+        row = [k for k in rest if k == rest[0] or taken_by(rest[0], k)]
+        rest = [k for k in rest if k not in row]
+        out.append(row)
+    return out
+
+
+sets("each dowel in one row, from the first listed", lambda self, m: gathered(
+    self, lambda i, k: near_two(self, m, i, k)))
+sets("each dowel in one row, upwards from the first listed", lambda self, m: gathered(
+    self, lambda i, k: self.across(m, i) <= self.across(m, k) and near_two(self, m, i, k)))
+
+
+def in_one_row_only(rows):
+    """The rows in turn, each without the dowels of those before it."""
+    seen, out = set(), []
+    for row in rows:
+        row = [k for k in row if k not in seen]
+        seen.update(row)
+        out.append(row)
+    return out
+
+
+sets("a dowel in several rows counted in the lowest", lambda self, m: in_one_row_only(Model.row_sets(self, m)))
+sets("a dowel in several rows counted in the highest",
+     lambda self, m: in_one_row_only(Model.row_sets(self, m)[::-1]))
+sets("a dowel in several rows counted in the longest",
+     lambda self, m: in_one_row_only(sorted(Model.row_sets(self, m), key=len, reverse=True)))
+sets("a dowel in several rows counted in none", lambda self, m: (lambda rows: [
+    [k for k in row if sum(k in other for other in rows) == 1] for row in rows])(Model.row_sets(self, m)))
+sets("d to both sides of each dowel", lambda self, m: [
+    [k for k in range(self.n) if near_two(self, m, i, k)] for i in range(self.n)])
+sets("d/2 to both sides of each dowel", lambda self, m: [
+    [k for k in range(self.n) if 2 * abs(self.across(m, i) - self.across(m, k)) < 10 * self.d] for i in range(self.n)])
+sets("upwards from each dowel, those listed after it only", lambda self, m: [
+    [k for k in range(i, self.n) if 0 <= self.across(m, k) - self.across(m, i) and near_two(self, m, i, k)]
+    for i in range(self.n)])
+sets("near to the first listed dowel of each row", lambda self, m: [
+    [k for k in range(i, self.n) if near_two(self, m, i, k)] for i in range(self.n)])
+sets("the distance across signed", lambda self, m: [
+    [k for k in range(self.n) if self.across(m, k) - self.across(m, i) < 10 * self.d] for i in range(self.n)])
+sets("each two near dowels a row of two", lambda self, m: [
+    [i, k] for i in range(self.n) for k in range(i) if near_two(self, m, i, k)])
+sets("neighbours across, rows of two", lambda self, m: [
+    [i, k] for i, k in zip(self.across_order(m), self.across_order(m)[1:]) if near_two(self, m, i, k)])
+sets("one dowel of each place across", lambda self, m: [
+    list({self.across(m, k): k for k in row}.values()) for row in Model.row_sets(self, m)])
+
+
+def bands(self, m, whole):
+    """Bands d wide, fixed in the drawing."""
+    out = {}
+    for k in range(self.n):
+        out.setdefault(whole(self.across(m, k), 10 * self.d), []).append(k)
+    return list(out.values())
+
+
+sets("bands d wide from 0", lambda self, m: bands(self, m, lambda c, d: c // d))
+sets("bands d wide, rounded to nearest", lambda self, m: bands(self, m, lambda c, d: (2 * c + d) // (2 * d)))
+sets("bands d wide, cut towards 0", lambda self, m: bands(self, m, lambda c, d: abs(c) // d))
+sets("bands d wide from the lowest dowel", lambda self, m: bands(
+    self, m, lambda c, d: (c - min(self.across(m, k) for k in range(self.n))) // d))
+sets("bands d wide from the outline", lambda self, m: bands(
+    self, m, lambda c, d: (c - self.axes(m, self.outline[m][:2])[1]) // d))
+
+sets("the lowest row only", lambda self, m: Model.row_sets(self, m)[:1])
+sets("the highest row only", lambda self, m: Model.row_sets(self, m)[-1:])
+sets("the lowest and the highest row only", lambda self, m: (lambda rows: rows[:1] + rows[-1:])(Model.row_sets(self, m)))
+sets("the highest row left out", lambda self, m: Model.row_sets(self, m)[:-1] or Model.row_sets(self, m))
+sets("every second row", lambda self, m: Model.row_sets(self, m)[::2])
+sets("the row of the first dowel only", lambda self, m: [row for row in Model.row_sets(self, m) if 0 in row])
+sets("the lowest dowel of a row left out", lambda self, m: [row[1:] for row in Model.row_sets(self, m)])
+sets("the highest dowel of a row of several left out", lambda self, m: [
+    row[:-1] if len(row) > 2 else row for row in Model.row_sets(self, m)])
+sets("at most 8 dowels in a row", lambda self, m: [row[:8] for row in Model.row_sets(self, m)])
+sets("at most 32 dowels in a row", lambda self, m: [row[:32] for row in Model.row_sets(self, m)])
+sets("at most 63 dowels in a row", lambda self, m: [row[:63] for row in Model.row_sets(self, m)])
+sets("rows of member 1, measured along each member", lambda self, m: Model.row_sets(self, 0))
+sets("rows of member 2, measured along each member", lambda self, m: Model.row_sets(self, 1))
+sets("the other member's rows, measured along each member", lambda self, m: Model.row_sets(self, 1 - m))
+sets("rows by y in both members", lambda self, m: Model.row_sets(self, self.grain.index(0) if 0 in self.grain else m))
+sets("along for across", lambda self, m: (lambda order: cut(
+    order, lambda row, k: abs(self.along(m, row[0]) - self.along(m, k)) < 10 * self.d))(
+        sorted(range(self.n), key=lambda k: self.along(m, k))))
+sets("straight distance below d", lambda self, m: gathered(self, lambda i, k: (
+    self.along(m, i) - self.along(m, k)) ** 2 + (self.across(m, i) - self.across(m, k)) ** 2 < 100 * self.d ** 2))
+
+
+def distance(name, gaps):
+    changed(LINE, name, gaps=gaps)
+
+
+def pairs(row):
+    return [(i, k) for at, i in enumerate(row) for k in row[:at]]
+
+
+distance("a1: neighbours across only", along_gaps)
+distance("a1: from the lowest dowel only", lambda self, m, row: [
+    abs(self.along(m, k) - self.along(m, row[0])) for k in row[1:]])
+distance("a1: from the first listed dowel only", lambda self, m, row: [
+    abs(self.along(m, k) - self.along(m, min(row))) for k in row if k != min(row)])
+distance("a1: lowest to highest", lambda self, m, row: [abs(self.along(m, row[-1]) - self.along(m, row[0]))])
+distance("a1: the straight distance", lambda self, m, row: [isqrt(
+    (self.along(m, i) - self.along(m, k)) ** 2 + (self.across(m, i) - self.across(m, k)) ** 2) for i, k in pairs(row)])
+distance("a1: along plus across", lambda self, m, row: [
+    abs(self.along(m, i) - self.along(m, k)) + abs(self.across(m, i) - self.across(m, k)) for i, k in pairs(row)])
+distance("a1: over the whole member", lambda self, m, row: [
+    g for g in Model.gaps(self, m, range(self.n)) if g] or Model.gaps(self, m, row))
+distance("a1: dowels of the same across only", lambda self, m, row: [
+    abs(self.along(m, i) - self.along(m, k)) for i, k in pairs(row) if self.across(m, i) == self.across(m, k)]
+    or [10 ** 6])
+distance("a1: dowels of another across only", lambda self, m, row: [
+    abs(self.along(m, i) - self.along(m, k)) for i, k in pairs(row) if self.across(m, i) != self.across(m, k)]
+    or Model.gaps(self, m, row))
+distance("a1: of dowels in no other row", lambda self, m, row: Model.gaps(self, m, [
+    k for k in row if sum(k in other for other in self.row_sets(m)) == 1]) or Model.gaps(self, m, row))
+distance("a1: at most 13d", lambda self, m, row: [min(g, 130 * self.d) for g in Model.gaps(self, m, row)])
+distance("a1: at least 5d", lambda self, m, row: [max(g, 50 * self.d) for g in Model.gaps(self, m, row)])
+distance("a1: along the other member", lambda self, m, row: [g for g in Model.gaps(self, 1 - m, row) if g] or [1])
+distance("a1: along member 1", lambda self, m, row: [g for g in Model.gaps(self, 0, row) if g] or [1])
+
+
+def figures_of(name, change):
+    """(n, a1) of the rows changed: change(list of rows) -> list of rows."""
+    changed(LINE, name, rows=lambda self, m: change(Model.rows(self, m)))
+
+
+figures_of("n of the longest row for all", lambda rows: [(max(rows)[0], a1) for _, a1 in rows])
+figures_of("n of the shortest row for all", lambda rows: [(min(rows)[0], a1) for _, a1 in rows])
+figures_of("a1 of the closest row for all", lambda rows: [(n, min(a1 for _, a1 in rows)) for n, _ in rows])
+figures_of("the row of the least a1 only", lambda rows: sorted(rows, key=lambda row: row[1])[:1])
+figures_of("rows of two left out", lambda rows: [row for row in rows if row[0] > 2])
+changed(LINE, "n: places across", number_in=lambda self, row: max(2, len({self.xy[k][1 - self.grain[0]] for k in row})))
+changed(LINE, "n: all dowels", number_in=lambda self, row: self.n)
+changed(LINE, "n: one less", number_in=lambda self, row: max(2, len(row) - 1))
+
+
+def by_01(self, m):
+    """The share of member m with rows as 01 had them."""
+    self.near = lambda c: c == 0
+    try:
+        return Model.member_share(self, m)
+    finally:
+        del self.near
+
+
+changed(LINE, "share by 01's rows, use by 02's", share=lambda self, shares: min(by_01(self, 0), by_01(self, 1)))
+changed(LINE, "use by 01's rows, share by 02's",
+        use=lambda self, cap, shares: Model.use(self, cap, (by_01(self, 0), by_01(self, 1))))
+changed(LINE, "02's rows in member 1 only", member_share=lambda self, m: by_01(self, 1) if m else Model.member_share(self, 0))
+changed(LINE, "02's rows in member 2 only", member_share=lambda self, m: Model.member_share(self, 1) if m else by_01(self, 0))
 
 # ------------------------------------------------------------------------------- use
 

@@ -56,6 +56,32 @@ static void fields(const char *name, const uint64_t *r, const uint64_t low[8], c
     }
 }
 
+/* Joint B with eight dowels along x in wide outlines, written and judged: every second dowel off the line by 0, 1 and 119
+ * tenths, upwards or downwards, is one row of eight; by 120, which is d, it is two rows of four. */
+static void check_rows(void)
+{
+    static const int32_t off[7] = {0, 1, 119, -1, -119, 120, -120};
+    static const uint64_t low[2][8] = {{2, 0, 0, 0, 0, 10669, 7440, 6395}, {1, 0, 0, 0, 0, 8371, 7440, 8151}};
+    static const uint64_t high[2][8] = {{2, 0, 0, 0, 0, 10724, 7441, 6396}, {1, 0, 0, 0, 0, 8414, 7441, 8152}};
+    struct values v = joint_b();
+    uint8_t record[590];
+    uint64_t answer[ANSWER], report[ROOM];
+    v.fields[NEGWISHAL_AT_FX] = 50000;
+    for (int at = NEGWISHAL_AT_X0_1; at <= NEGWISHAL_AT_X0_2; at += NEGWISHAL_AT_X0_2 - NEGWISHAL_AT_X0_1)
+        for (int k = 0; k < 4; k++)
+            v.fields[at + k] = k < 2 ? -90000 : 90000;
+    for (int k = 0; k < 7; k++) {
+        for (int i = 0; i < 8; i++) {
+            v.x[i] = 600 * i;
+            v.y[i] = i % 2 * off[k];
+        }
+        negwishal_write(v.fields, VALUES, v.x, 8, v.y, 8, v.x, 0, record, sizeof record, answer, ANSWER);
+        expect("eight dowels, written", answer[NEGWISHAL_ANSWER_LENGTH], 142, 142);
+        expect("what eight dowels return", judged(record, 142, report, 8), 0, 0);
+        fields("eight dowels", report, low[k >= 5], high[k >= 5]);
+    }
+}
+
 int main(int argc, char **argv)
 {
     static const uint64_t b_low[8] = {1, 0, 0, 0, 0, 7431, 7440, 7346};
@@ -123,6 +149,7 @@ int main(int argc, char **argv)
         fields("the unknown class", report, unknown, unknown);
     }
 
+    check_rows();
     check_write(kept, nb);
     check_read(kept, nb, c, nc);
 

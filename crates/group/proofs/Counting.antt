@@ -1,35 +1,19 @@
--- Laws of counting a row and of the least distance in it.
+-- Laws of counting a set of dowels and of the least distance in it.
 use mathlib.Core.Path.{_≡_, refl, sym, ap, _∙_}
 use mathlib.Core.Bool.{Bool, true, false, cond, true≢false}
 use mathlib.Core.Logic.{_⊎_, inl, inr, ⊎-elim}
+use mathlib.Core.List.{List}
 use Prim.Native.Nat.{ℕ, zero, suc, _+_, _≤_, _<_, min}
 use native.Mathlib.Numerals.{add-one}
 use native.Mathlib.Nat.{lt-of-not-le}
 use native.Mathlib.Decide.{decLe, decLt, ℕ-discrete}
 use native.Mathlib.Omega.{arith}
+use lib.IntN.{ℤ}
+use Rattle.spacing.specs.Spacing.{place, distance}
+use Rattle.spacing.proofs.Integers.{distance-turned}
 use Rattle.spacing.proofs.Search.{pick-at-most}
 use Rattle.group.specs.Rows.{countTo}
-use Rattle.group.specs.Share.{leastTo}
-
--- one more index
-pub count-on : (test : ℕ → Bool) (k : ℕ) → countTo test (k + 1) ≡ cond (test k) (countTo test k + 1) (countTo test k)
-unfolding countTo
-count-on test k = ap (countTo test) (add-one k)
-
-pub least-on :
-    (cap : ℕ) (test : ℕ → Bool) (f : ℕ → ℕ) (k : ℕ) →
-    leastTo cap test f (k + 1) ≡ cond (test k) (min (leastTo cap test f k) (f k)) (leastTo cap test f k)
-unfolding leastTo
-least-on cap test f k = ap (leastTo cap test f) (add-one k)
-
--- no index yet
-pub count-none : (test : ℕ → Bool) → 0 ≡ countTo test 0
-unfolding countTo
-count-none test = refl
-
-pub least-none : (cap : ℕ) (test : ℕ → Bool) (f : ℕ → ℕ) → cap ≡ leastTo cap test f 0
-unfolding leastTo
-least-none cap test f = refl
+use Rattle.group.specs.Share.{leastTo, closestTo}
 
 pub count-bound : (test : ℕ → Bool) (k : ℕ) → countTo test k ≤ k
 unfolding countTo
@@ -143,6 +127,22 @@ pub count-two :
 count-two test zero i j o h t u = absurd (omega arith)
 count-two test (suc k) i j o h t u = two-by test k i j (decLt j k) o h t u (λ p. count-two test k i j o p t u)
 
+pub count-longer : (test : ℕ → Bool) (k : ℕ) → countTo test k ≤ countTo test (k + 1)
+count-longer test k = rw (add-one k) (count-grows test k)
+
+-- what holds wherever another test does is counted at least as often
+pub count-more : (test more : ℕ → Bool) (k : ℕ) → ((i : ℕ) → i < k → test i ≡ true → more i ≡ true) → countTo test k ≤ countTo more k
+unfolding countTo
+count-more test more zero h = omega arith
+count-more test more (suc k) h = go (test k) refl (more k) refl (count-more test more k (λ i l. h i (omega arith)))
+  where
+    go : (s : Bool) → test k ≡ s → (t : Bool) → more k ≡ t → countTo test k ≤ countTo more k →
+        cond s (countTo test k + 1) (countTo test k) ≤ cond t (countTo more k + 1) (countTo more k)
+    go true e true f l = omega (arith, l)
+    go true e false f l = absurd (true≢false (sym (h k (omega arith) e) ∙ f))
+    go false e true f l = omega (arith, l)
+    go false e false f l = l
+
 -- where one passes it can be found, and where two pass another than a given one
 pub record Another (test : ℕ → Bool) (k o : ℕ) : Type 0 where
   pub one : ℕ
@@ -180,3 +180,101 @@ pub another : (test : ℕ → Bool) (k o : ℕ) → 2 ≤ countTo test k → Ano
 unfolding countTo
 another test zero o h = absurd (omega arith)
 another test (suc k) o h = another-by test k o (test k) refl h (λ p. another test k o p)
+
+-- ---- the least distance of two that pass
+-- two different ones of those below k that pass, and their distance
+pub record Two (test : ℕ → Bool) (a : List ℤ) (k l : ℕ) : Type 0 where
+  pub one : ℕ
+  pub two : ℕ
+  pub before : one < two
+  pub within : two < k
+  pub one-passes : test one ≡ true
+  pub two-passes : test two ≡ true
+  pub apart : l ≡ distance a two one
+
+module _ (cap : ℕ) (test : ℕ → Bool) (a : List ℤ) where
+  pub closest-bound : (k : ℕ) → closestTo cap test a k ≤ cap
+  unfolding closestTo
+  closest-bound zero = omega arith
+  closest-bound (suc k) = let h = closest-bound k in pick-at-most (test k) _ _ _ (omega arith) h
+
+  -- it is at most each of them
+  pub closest-below :
+      (k i j : ℕ) → i < j → j < k → test i ≡ true → test j ≡ true → closestTo cap test a k ≤ distance a j i
+  unfolding closestTo
+  closest-below zero i j o q s t = absurd (omega arith)
+  closest-below (suc k) i j o q s t = go (decLt j k) (λ p. closest-below k i j o p s t)
+    where
+      go : Dec (j < k) → (j < k → closestTo cap test a k ≤ distance a j i) →
+          cond (test k) (min (closestTo cap test a k) (leastTo cap test (distance a k) k)) (closestTo cap test a k) ≤ distance a j i
+      go (yes p) ih = let h = ih p in pick-at-most (test k) _ _ _ (omega arith) h
+      go (no p) ih =
+          let e : k ≡ j = omega (arith, lt-of-not-le p) in
+          rw (e, t) (omega (arith, least-below cap test (distance a j) j i o s))
+
+  -- in whichever order the two come
+  pub closest-least :
+      (k i j : ℕ) → i < k → j < k → (i ≡ j → ⊥) → test i ≡ true → test j ≡ true → closestTo cap test a k ≤ distance a i j
+  closest-least k i j hi hj n s t = go (decLt i j)
+    where
+      go : Dec (i < j) → closestTo cap test a k ≤ distance a i j
+      go (yes p) = rw (distance-turned (place a j) (place a i)) (closest-below k i j p hj s t)
+      go (no p) = closest-below k j i (omega (arith, lt-of-not-le p, n)) hi t s
+
+  -- below the cap it is one of them
+  pub closest-attained : (k : ℕ) → closestTo cap test a k < cap → Two test a k (closestTo cap test a k)
+  unfolding closestTo
+  closest-attained zero h = absurd (omega arith)
+  closest-attained (suc k) h = go (test k) refl h (closest-attained k)
+    where
+      further : {l : ℕ} → Two test a k l → Two test a (suc k) l
+      further t = record {
+        one = t .one;
+        two = t .two;
+        before = t .before;
+        within = omega (arith, t .within);
+        one-passes = t .one-passes;
+        two-passes = t .two-passes;
+        apart = t .apart;
+      }
+
+      least : ℕ
+      least = leastTo cap test (distance a k) k
+
+      pick : Dec (closestTo cap test a k ≤ least) → test k ≡ true → min (closestTo cap test a k) least < cap →
+          (closestTo cap test a k < cap → Two test a k (closestTo cap test a k)) → Two test a (suc k) (min (closestTo cap test a k) least)
+      pick (yes p) t l ih =
+          let e : min (closestTo cap test a k) least ≡ closestTo cap test a k = omega arith in
+          rw e (further (ih (omega (arith, l))))
+      pick (no p) t l ih =
+          let q = lt-of-not-le p in
+          let o = least-attained cap test (distance a k) k (omega (arith, l, q)) in
+          record {
+            one = o .one;
+            two = k;
+            before = o .within;
+            within = omega arith;
+            one-passes = o .passes;
+            two-passes = t;
+            apart = omega (arith, q, o .least);
+          }
+
+      go : (b : Bool) → test k ≡ b → cond b (min (closestTo cap test a k) least) (closestTo cap test a k) < cap →
+          (closestTo cap test a k < cap → Two test a k (closestTo cap test a k)) →
+          Two test a (suc k) (cond b (min (closestTo cap test a k) least) (closestTo cap test a k))
+      go true t l ih = pick (decLe (closestTo cap test a k) least) t l ih
+      go false t l ih = further (ih l)
+
+  -- it is at least what the cap and each of them are at least
+  pub closest-from :
+      (k m : ℕ) → m ≤ cap → ((i j : ℕ) → i < j → j < k → test i ≡ true → test j ≡ true → m ≤ distance a j i) →
+      m ≤ closestTo cap test a k
+  unfolding closestTo
+  closest-from zero m h g = h
+  closest-from (suc k) m h g =
+      go (test k) refl (closest-from k m h (λ i j o q. g i j o (omega arith)))
+    where
+      go : (b : Bool) → test k ≡ b → m ≤ closestTo cap test a k →
+          m ≤ cond b (min (closestTo cap test a k) (leastTo cap test (distance a k) k)) (closestTo cap test a k)
+      go true t r = omega (arith, r, least-from cap test (distance a k) k m h (λ i q s. g i k q (omega arith) s t))
+      go false t r = r

@@ -1,13 +1,16 @@
--- Laws of the tests 'not above' and 'not below' an effective number.
+-- Laws of the tests 'not above' and 'not below' an effective number, and of the shares that are not above it.
 use Prim.Native.Nat.{ℕ, _*_, _^_, _≤_, _<_}
-use native.Mathlib.Nat.{mul-pos, mul-le-mul-right, le-of-lt, lt-of-not-le, le-of-mul-le-mul-left, one-le-pow}
+use mathlib.Core.Path.{_≡_, sym, ap, ap₂, _∙_}
+use native.Mathlib.Nat.{mul-pos, mul-le-mul, mul-le-mul-left, mul-le-mul-right, le-trans, le-of-lt, lt-of-not-le, le-of-mul-le-mul-left}
+use native.Mathlib.Nat.{one-le-pow, pow-le-pow-left}
 use lib.Dec.{lit<}
+use lib.Pow.{pow-add}
 use native.Mathlib.Decide.{decLe, decLt}
 use native.Mathlib.Omega.{arith}
 use Rattle.strength.specs.Fraction.{Fraction, whole, _⊗_, _↑_, _≼_, Proper}
 use Rattle.strength.proofs.Ratios.{≼-trans, ↑-proper, ↑-mono, ⊗-mono}
-use Rattle.wide.proofs.Powers.{mul-pow, pow-le-back}
-use Rattle.group.specs.Rows.{NotAbove, NotBelow}
+use Rattle.wide.proofs.Powers.{mul-pow, fifth-is, square-is, pow-le-back}
+use Rattle.group.specs.Rows.{NotAbove, NotBelow, shareOver}
 use Rattle.group.specs.Rows.NotBelow.{all, several}
 
 -- x^20 D y^20 ≤ z^20 D w^20 orders x y and z w
@@ -53,4 +56,36 @@ not-above-falls d n a1 x y py h l = record {
   several = λ k.
       ≼-trans ((x ↑ 20) ⊗ whole ((130 * d) ^ 5)) ((y ↑ 20) ⊗ whole ((130 * d) ^ 5)) (whole (n ^ 18 * a1 ^ 5))
       (mul-pos (↑-proper y 20 py) (lit< tt)) (⊗-mono (x ↑ 20) (y ↑ 20) (whole ((130 * d) ^ 5)) (↑-mono x y 20 h)) (l .several k);
+}
+
+-- ---- shares of rows
+-- e n/10,000 to the power of 20, with n^18 taken out of both sides
+powers : (e n D : ℕ) → (e * n) ^ 20 * D * 1 ≡ n ^ 18 * ((e ^ 4) ^ 5 * (D * (n * n)))
+powers e n D =
+    let p : (e * n) ^ 20 ≡ (e ^ 4) ^ 5 * (n ^ 18 * (n * n)) =
+    mul-pow e n 20 ∙ ap₂ _*_ (sym (twenty e)) (pow-add n 18 2 ∙ ap (λ z. n ^ 18 * z) (square-is n)) in
+    rw p (omega arith)
+  where
+    twenty : (e : ℕ) → (e ^ 4) ^ 5 ≡ e ^ 20
+    twenty e = rw (← (fifth-is (e ^ 4)), pow-add e 16 4, pow-add e 8 8, pow-add e 4 4)
+
+pub cleared : (e n D A T : ℕ) → (e ^ 4) ^ 5 * (D * (n * n)) ≤ T * A → (e * n) ^ 20 * D * 1 ≤ n ^ 18 * A * (T * 1)
+cleared e n D A T h = rw (powers e n D) (omega (arith, mul-le-mul-left (n ^ 18) h))
+
+pub cancelled :
+    (e n D A T : ℕ) → 0 < n → (e * n) ^ 20 * D * 1 ≤ n ^ 18 * A * (T * 1) → (e ^ 4) ^ 5 * (D * (n * n)) ≤ T * A
+cancelled e n D A T p h =
+    le-of-mul-le-mul-left {k = n ^ 18} (omega (arith, powers e n D, h)) (one-le-pow 18 n p)
+
+-- more dowels and a smaller a1 never pass more: a share that is not above in a row is not above in one that is no longer and no closer
+pub not-above-eased :
+    (d n n′ a1 a1′ e : ℕ) → 1 ≤ n′ → n ≤ n′ → (1 < n → a1′ ≤ a1) → NotAbove d n′ a1′ (shareOver e n′) → NotAbove d n a1 (shareOver e n)
+not-above-eased d n n′ a1 a1′ e some h near q = record {
+  number =
+      let top : e ≤ 10000 = le-of-mul-le-mul-left {k = n′} (omega (arith, q .number)) some in omega (arith, mul-le-mul-right n top);
+  several = λ p.
+      cleared e n ((130 * d) ^ 5) (a1 ^ 5) (10000 ^ 20)
+      (le-trans (mul-le-mul-left ((e ^ 4) ^ 5) (mul-le-mul-left ((130 * d) ^ 5) (mul-le-mul h h)))
+      (le-trans (cancelled e n′ ((130 * d) ^ 5) (a1′ ^ 5) (10000 ^ 20) some (q .several (omega (arith, p, h))))
+      (mul-le-mul-left (10000 ^ 20) (pow-le-pow-left (near p) 5))));
 }

@@ -1,7 +1,14 @@
+pub mod Line
 pub mod Counting
 pub mod Sizes
 pub mod Shares
+pub mod Extend
 pub mod RowLaws
-pub mod Bracket
-pub mod Floor
+pub mod OrderLaws
+pub mod Relist
+pub mod SeenLaws
 pub mod Effective
+pub mod Bracket
+pub mod Windows
+pub mod Floor
+pub mod Says

@@ -1,6 +1,6 @@
 -- Laws of the share: which shares a row passes, and the greatest of them.
 use mathlib.Core.Path.{_≡_, refl, sym, ap, _∙_}
-use mathlib.Core.Bool.{Bool, true, false, cond, _&&_, true≢false, and-eq-true-iff}
+use mathlib.Core.Bool.{Bool, true, false, cond, _&&_, true≢false, and-eq-true-iff, and-false}
 use Prim.Native.Nat.{ℕ, zero, suc, _+_, _*_, _^_, _≤_, _<_}
 use native.Mathlib.Nat.{mul-le-mul, mul-le-mul-left, mul-le-mul-right, le-trans, lt-of-lt-of-le, le-of-lt, lt-of-not-le, pow-le-pow-left, pow-suc}
 use native.Mathlib.Nat.{pow-zero, le-refl, le-of-mul-le-mul-right, mul-pos, mul-comm}
@@ -12,7 +12,7 @@ use lib.Dec.{leb, lit≤}
 use Rattle.wide.proofs.Bits.{product-bits}
 use Rattle.wide.proofs.Powers.{fifth-is}
 use Rattle.strength.specs.Roots.{FactorWithin}
-use Rattle.group.specs.Share.{units, rowPasses, allTo, greatestTo, GreatestShare}
+use Rattle.group.specs.Share.{units, farthest, rowPasses, allTo, greatestTo, GreatestShare}
 use Rattle.group.proofs.Sizes.{unit5, number2}
 
 pub fourth : (e : ℕ) → e * e * (e * e) ≡ e ^ 4
@@ -46,11 +46,11 @@ unfolding rowPasses
 nothing-passes d n a = le-leb ((0 ^ 4) ^ 5 * ((130 * d) ^ 5 * (n * n))) (units * a ^ 5) (omega arith)
 
 -- at the farthest distance every share up to the whole passes
-pub far-passes : (d n e : ℕ) → d ≤ 30 → n ≤ 64 → e ≤ 10000 → rowPasses d n 200000 e ≡ true
+pub far-passes : (d n e : ℕ) → d ≤ 30 → n ≤ 64 → e ≤ 10000 → rowPasses d n farthest e ≡ true
 unfolding rowPasses units
 far-passes d n e hd hn he =
     let u : 130 * d ≤ 3900 = omega arith in
-    let far : 3900 ^ 5 * (64 * 64) ≤ 200000 ^ 5 = lit≤ tt in
+    let far : 3900 ^ 5 * (64 * 64) ≤ farthest ^ 5 = lit≤ tt in
     le-leb _ _
     (le-trans (mul-le-mul (power20 he) (mul-le-mul (pow-le-pow-left u 5) (mul-le-mul hn hn)))
     (mul-le-mul-left ((10000 ^ 4) ^ 5) far))
@@ -89,6 +89,11 @@ module _ (n a n′ a′ : ℕ) where
       1 ≤ n′ → n * n * a′ ^ 5 ≤ n′ * n′ * a ^ 5 → (d e : ℕ) → rowPasses d n′ a′ e ≡ rowPasses d n′ a′ e && rowPasses d n a e
   second-decides s h d e = and-before _ _ (lighter d n′ a′ n a e s h)
 
+-- a product above another number has no factor 0
+pub some-factor : (x n k : ℕ) → x < n * n * k → 1 ≤ n
+some-factor x zero k h = absurd (omega arith)
+some-factor x (suc n) k h = omega arith
+
 -- ---- every index below k
 pub all-true : (test : ℕ → Bool) (k : ℕ) → ((i : ℕ) → i < k → test i ≡ true) → allTo test k ≡ true
 unfolding allTo
@@ -108,6 +113,20 @@ all-at test (suc k) h i l =
     go : Dec (i < k) → test k ≡ true → ((j : ℕ) → j < k → test j ≡ true) → test i ≡ true
     go (yes q) t r = r i q
     go (no q) t r = let s : i ≡ k = omega (arith, lt-of-not-le q) in rw s t
+
+-- tests that agree
+pub all-same : (test other : ℕ → Bool) (k : ℕ) → ((i : ℕ) → i < k → test i ≡ other i) → allTo test k ≡ allTo other k
+unfolding allTo
+all-same test other zero h = refl
+all-same test other (suc k) h = rw (h k (omega arith), all-same test other k (λ i l. h i (omega arith)))
+
+-- an index that passes where an earlier one does
+pub all-again : (test : ℕ → Bool) (k j : ℕ) → j < k → test k ≡ test j → allTo test (k + 1) ≡ allTo test k
+all-again test k j h e = all-on test k ∙ go (allTo test k) refl
+  where
+    go : (b : Bool) → allTo test k ≡ b → test k && allTo test k ≡ allTo test k
+    go true a = rw (a, e, all-at test k a j h)
+    go false a = rw a (and-false (test k))
 
 pub record Fails (test : ℕ → Bool) (k : ℕ) : Type 0 where
   pub one : ℕ

@@ -1,2 +1,4 @@
 pub mod Rows
+pub mod Says
+pub mod Listing
 pub mod Share

@@ -1,47 +1,54 @@
--- Rows, effective number and row share (01, 'Rows, share and use'). Lengths are tenths of a millimetre, d is in mm.
--- a are the coordinates of the dowels along a member's grain, b across it; dowels are counted from 0.
+-- Rows, effective number and row share (01, 'Rows, share and use'; 02, A3). Lengths are tenths of a millimetre, d is in mm.
+-- a are the coordinates of the dowels along a member's grain, b across it; there are `count` dowels, counted from 0.
 use Prim.Native.Nat.{ℕ, zero, suc, _+_, _*_, _^_, _≤_, _<_}
 use mathlib.Core.Path.{_≡_}
-use mathlib.Core.Bool.{Bool, true, cond}
+use mathlib.Core.Bool.{Bool, true, false, cond}
 use mathlib.Core.List.{List}
-use lib.Dec.{eqb}
 use lib.IntN.{ℤ}
 use Rattle.strength.specs.Fraction.{Fraction, _over_, whole, _⊗_, _↑_, _≼_}
 use Rattle.spacing.specs.Spacing.{distance}
 
--- A row in a member is all dowels with the same across coordinate: the row of dowel i.
-abbrev pub sameRow : List ℤ → ℕ → ℕ → Bool
-sameRow b i j = eqb (distance b i j) 0
+-- d in tenths, as coordinates are
+abbrev pub reachOf : ℕ → ℕ
+reachOf d = 10 * d
 
--- how many of 0, 1, .. below k pass a test
+-- dowel i cannot be added to a set: it differs across by `reach`, d in tenths, or more from a dowel of the set
+pub record Barred (b : List ℤ) (count reach : ℕ) (inRow : ℕ → Bool) (i : ℕ) : Type 0 where
+  pub by : ℕ
+  pub within : by < count
+  pub member : inRow by ≡ true
+  pub far : reach ≤ distance b i by
+
+-- 'A row is any set of dowels whose across coordinates all differ by less than d and to which no other dowel can be added' (02, A3).
+-- A set is a test on the dowels' numbers, of which those below `count` matter.
+pub record IsRow (b : List ℤ) (count reach : ℕ) (inRow : ℕ → Bool) : Type 0 where
+  pub near : (i j : ℕ) → i < count → j < count → inRow i ≡ true → inRow j ≡ true → distance b i j < reach
+  pub full : (i : ℕ) → i < count → inRow i ≡ false → Barred b count reach inRow i
+
+-- 'n is their number': how many of 0, 1, .. below k pass a test
 unfoldable pub countTo : (ℕ → Bool) → ℕ → ℕ
 countTo test zero = 0
 countTo test (suc k) = cond (test k) (countTo test k + 1) (countTo test k)
 
--- n is the number of dowels in the row
-abbrev pub rowNumber : List ℤ → ℕ → ℕ → ℕ
-rowNumber b count i = countTo (sameRow b i) count
-
--- a1 is the least along distance in the row: two dowels of it lie a1 apart, and no two of it lie closer
-pub record LeastDistance (a b : List ℤ) (count i a1 : ℕ) : Type 0 where
+-- 'a1 the least along distance in it': two different dowels of it lie a1 apart, and no two of it lie closer
+pub record LeastDistance (a : List ℤ) (count : ℕ) (inRow : ℕ → Bool) (a1 : ℕ) : Type 0 where
   pub one : ℕ
   pub two : ℕ
   pub one-within : one < count
   pub two-within : two < count
   pub differ : one ≡ two → ⊥
-  pub one-row : sameRow b i one ≡ true
-  pub two-row : sameRow b i two ≡ true
+  pub one-row : inRow one ≡ true
+  pub two-row : inRow two ≡ true
   pub attained : a1 ≡ distance a one two
   pub least :
-      (j k : ℕ) → j < count → k < count → (j ≡ k → ⊥) → sameRow b i j ≡ true → sameRow b i k ≡ true →
-      a1 ≤ distance a j k
+      (j k : ℕ) → j < count → k < count → (j ≡ k → ⊥) → inRow j ≡ true → inRow k ≡ true → a1 ≤ distance a j k
 
 -- n and a1 are those of a row. A row of one dowel has no a1: every number stands for it, and no test reads it.
-pub record IsRow (a b : List ℤ) (count n a1 : ℕ) : Type 0 where
-  pub dowel : ℕ
-  pub within : dowel < count
-  pub number : n ≡ rowNumber b count dowel
-  pub distance : 1 < n → LeastDistance a b count dowel a1
+pub record OfRow (a b : List ℤ) (count reach n a1 : ℕ) : Type 0 where
+  pub inRow : ℕ → Bool
+  pub row : IsRow b count reach inRow
+  pub number : n ≡ countTo inRow count
+  pub distance : 1 < n → LeastDistance a count inRow a1
 
 -- The effective number is 1 for n = 1, else the lesser of n and n^0.9 (a1/13d)^¼. A fraction e is not above it if e ≤ n and, for
 -- n > 1, e^20 (130 d)^5 ≤ n^18 a1^5.
@@ -73,8 +80,9 @@ pub record MemberBracket (row : ℕ → ℕ → Type 0) (d e : ℕ) : Type 0 whe
   pub every : EveryRow row d e
   pub some : SomeRowAbove row d (e + 2)
 
--- What the record's limits guarantee and the share needs.
-pub record RowsGiven (d count : ℕ) : Type 0 where
+-- What the record's limits guarantee of d, of d in tenths and of the number of dowels.
+pub record RowsGiven (d reach count : ℕ) : Type 0 where
   pub thick : d ≤ 30
+  pub reaches : 60 ≤ reach
   pub some : 1 ≤ count
   pub most : count ≤ 64

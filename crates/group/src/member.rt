@@ -9,6 +9,9 @@ use spacing::view;
 use spacing::view::Piece;
 use spacing::view::Which;
 
+// Tenths of a millimetre in one.
+const TENTHS: u64 = 10;
+
 // The size of the force along a member's grain, in N, and the share of its rows, in ten-thousandths.
 pub struct Taken {
     pub along: u64,
@@ -38,7 +41,7 @@ fn one_taken(
     y: [i32; 64],
     count: usize,
 ) -> Taken
-    requires { ⌜ Given d fx fy count × (1 ≤ count) ⌝ }
+    requires { ⌜ Given d fx fy count × (6 ≤ d) × (1 ≤ count) ⌝ }
     ensures { λ r. ⌜ TakenFrom m d fx fy x y count r ⌝ }
 {
     let view = view::view_of(which, m, fx, fy, x, y);
@@ -47,7 +50,7 @@ fn one_taken(
     let across = view.across;
     Taken {
         along: signed::size(frame.force),
-        share: share::member_share(d, along, across, count),
+        share: share::member_share(d, TENTHS * d, along, across, count),
     }
 }
 
@@ -62,7 +65,7 @@ pub fn both_taken(
     y: [i32; 64],
     count: usize,
 ) -> Both
-    requires { ⌜ Given d fx fy count × (1 ≤ count) ⌝ }
+    requires { ⌜ Given d fx fy count × (6 ≤ d) × (1 ≤ count) ⌝ }
     ensures { λ r. ⌜ BothTaken member1 member2 d fx fy x y count r ⌝ }
 {
     let first = one_taken(Which::Member1, member1, d, fx, fy, x, y, count);

@@ -1,11 +1,12 @@
-// The share of a row and of a member, in ten-thousandths, rounded down (01, 'Rows, share and use').
+// The share of a row and of a member, in ten-thousandths, rounded down (01, 'Rows, share and use'; 02, A3).
 ghost use mathlib.Core.Path.{_≡_};
-ghost use Prim.Native.Nat.{_*_, _^_, _≤_};
+ghost use Prim.Native.Nat.{_*_, _^_, _<_, _≤_};
 ghost use lib.Dec.{leb};
 ghost use Rattle.wide.specs.Natural.{value};
 ghost use Rattle.strength.specs.Roots.{FactorWithin};
 ghost use Rattle.group.specs.Rows.{RowsGiven};
 ghost use Rattle.group.specs.Share.{
+  farthest,
   units,
   RowHolds,
   BetweenShares,
@@ -13,11 +14,14 @@ ghost use Rattle.group.specs.Share.{
   greatestTo,
   rowPasses,
   Decides,
-  memberShare,
+  sameStart,
+  WorstOf,
   MemberShared,
 };
+use crate::order;
 use crate::rows;
 use crate::rows::Row;
+use spacing::signed;
 use strength::roots;
 
 // Ten-thousandths of the whole.
@@ -41,7 +45,7 @@ const UNITS: [u32; 9] = [
 
 // number² length^5.
 fn product(number: u64, length: u64) -> [u32; 4]
-    requires { ⌜ (number ≤ 64) × (length ≤ 200000) ⌝ }
+    requires { ⌜ (number ≤ 64) × (length ≤ farthest) ⌝ }
     ensures { λ r. ⌜ value r ≡ number * number * length ^ 5 ⌝ }
 {
     let square = length * length;
@@ -50,7 +54,7 @@ fn product(number: u64, length: u64) -> [u32; 4]
 
 // 10,000^20 a1^5.
 fn scaled(a1: u64) -> [u32; 12]
-    requires { ⌜ a1 ≤ 200000 ⌝ }
+    requires { ⌜ a1 ≤ farthest ⌝ }
     ensures { λ r. ⌜ value r ≡ units * a1 ^ 5 ⌝ }
 {
     let power = product(1, a1);
@@ -88,55 +92,71 @@ fn greatest_between(q: &[u32], n: &[u32], lo: u64, hi: u64) -> u64
 // The greatest share that a row passes.
 fn row_share(d: u64, row: Row) -> u64
     requires { ⌜ (d ≤ 30) × RowHolds row ⌝ }
-    ensures { λ r. ⌜ r ≡ greatestTo (rowPasses d (row .number) (row .nearest)) 10000 ⌝ }
+    ensures { λ r. ⌜ r ≡ greatestTo (rowPasses d (row .number) (row .least)) 10000 ⌝ }
 {
     let q = product(row.number, REFERENCE * d);
-    let n = scaled(row.nearest);
+    let n = scaled(row.least);
     if passes(WHOLE, &q, &n) {
         return WHOLE;
     }
     greatest_between(&q, &n, 0, WHOLE)
 }
 
-// Of two rows the one that passes fewer shares: the greater number² / nearest^5. A row no longer and no closer needs no powers.
+// Of two rows the one that passes fewer shares: the greater number² / least^5. A row no longer and no closer needs no powers.
 fn deciding(worst: Row, row: Row) -> Row
-    requires { ⌜ RowHolds worst × RowHolds row ⌝ }
+    requires { ⌜ (1 ≤ worst .number) × RowHolds worst × RowHolds row ⌝ }
     ensures { λ r. ⌜ Decides worst row r ⌝ }
 {
     if row.number <= worst.number {
-        if worst.nearest <= row.nearest {
+        if worst.least <= row.least {
             return worst;
         }
     }
-    let there = product(row.number, worst.nearest);
-    let here = product(worst.number, row.nearest);
+    let there = product(row.number, worst.least);
+    let here = product(worst.number, row.least);
     if wide::at_most(&there, &here) {
         return worst;
     }
     row
 }
 
-// The same of lists that are lent.
-fn share_in(d: u64, a: &[i32; 64], b: &[i32; 64], count: usize) -> u64
-    requires { ⌜ RowsGiven d count ⌝ }
-    ensures { λ r. ⌜ r ≡ memberShare d (now (a .entry)) (now (b .entry)) count ⌝ }
+// Whether a window starts where the one before it did.
+fn same_start(starts: &[i32; 64], i: usize) -> bool
+    requires { ⌜ i < 64 ⌝ }
+    ensures { λ r. ⌜ r ≡ sameStart (now (starts .entry)) i ⌝ }
+{
+    if i == 0 {
+        return false;
+    }
+    signed::apart(starts[i - 1], starts[i]) == 0
+}
+
+// Of the windows from each of `starts` upwards the one that passes the fewest shares.
+fn worst_window(a: &[i32; 64], b: &[i32; 64], starts: &[i32; 64], count: usize, reach: u64) -> Row
+    requires { ⌜ count ≤ 64 ⌝ }
+    ensures { λ r. ⌜ WorstOf reach (now (a .entry)) (now (b .entry)) count (now (starts .entry)) count r ⌝ }
 {
     let mut worst = Row {
         number: 1,
-        nearest: rows::FARTHEST,
+        least: rows::FARTHEST,
     };
     let mut i = 0;
     while i < count {
-        worst = deciding(worst, rows::row_of(a, b, count, i));
+        if !same_start(starts, i) {
+            worst = deciding(worst, rows::window_from(a, b, count, starts[i], reach));
+        }
         i += 1;
     }
-    row_share(d, worst)
+    worst
 }
 
-// The share of a member, with the dowels' coordinates along and across its grain.
-pub fn member_share(d: u64, a: [i32; 64], b: [i32; 64], count: usize) -> u64
-    requires { ⌜ RowsGiven d count ⌝ }
-    ensures { λ r. ⌜ MemberShared d a b count r ⌝ }
+// The share of a member, with the dowels' coordinates along and across its grain; a row reaches less than `reach` across.
+pub fn member_share(d: u64, reach: u64, a: [i32; 64], b: [i32; 64], count: usize) -> u64
+    requires { ⌜ RowsGiven d reach count ⌝ }
+    ensures { λ r. ⌜ MemberShared d reach a b count r ⌝ }
 {
-    share_in(d, &a, &b, count)
+    let listed = order::in_order(a, b, count);
+    let along = listed.along;
+    let across = listed.across;
+    row_share(d, worst_window(&along, &across, &b, count, reach))
 }

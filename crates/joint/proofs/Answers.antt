@@ -15,10 +15,10 @@ use Rattle.strength.proofs.Floors.{capacity-floor}
 use Rattle.strength.proofs.Most.{at-most-meganewtons}
 use Rattle.spacing.specs.declared.view.Which.{Which}
 use Rattle.spacing.specs.declared.view.Which.the-variants.{Member1, Member2}
-use Rattle.spacing.specs.Spacing.{across, frameOf}
+use Rattle.spacing.specs.Spacing.{frameOf}
 use Rattle.spacing.proofs.Laws.{spacing-says}
 use Rattle.spacing.proofs.Passing.{joint-apart, Apart}
-use Rattle.group.specs.Rows.{shareOver, EveryRow, MemberBracket, RowsGiven}
+use Rattle.group.specs.Rows.{reachOf, shareOver, EveryRow, MemberBracket, RowsGiven}
 use Rattle.group.proofs.Bracket.{share-bracket, share-top}
 use Rattle.group.proofs.Effective.{not-above-not-below, above-not-below, not-above-falls}
 use Rattle.group.proofs.Floor.{share-from}
@@ -76,11 +76,16 @@ module _ (v : Values) (p : Passed v) where
   abbrev of : Member → Taken
   of m = memberTaken m (v .dowel) (v .loads) (v .positions)
 
-  given : RowsGiven (v .dowel .diameter) (v .positions .n)
-  given = record { thick = p .fields .diameter-high; some = p .fields .dowels-low; most = p .fields .dowels-high }
+  given : RowsGiven (v .dowel .diameter) (reachOf (v .dowel .diameter)) (v .positions .n)
+  given = record {
+    thick = p .fields .diameter-high;
+    reaches = omega (arith, p .fields .diameter-low);
+    some = p .fields .dowels-low;
+    most = p .fields .dowels-high;
+  }
 
   bracket : (m : Member) → MemberBracket (carrierOf v m .row) (j .diameter) (of m .share)
-  bracket m = share-bracket (v .dowel .diameter) _ _ (v .positions .n) given
+  bracket m = share-bracket (v .dowel .diameter) (reachOf (v .dowel .diameter)) _ _ (v .positions .n) given
 
   abbrev ApartIn : Which → Member → Type 0
   ApartIn k m =
@@ -95,9 +100,9 @@ module _ (v : Values) (p : Passed v) where
     along-high = along-small v (p .fields) (p .given .force) m;
     share-low =
         le-trans (lit≤ tt)
-        (share-from (frameOf k (spaced m) (v .loads .fx) (v .loads .fy)) (v .dowel .diameter) _ _ (v .positions .n)
-        (omega (arith, p .fields .diameter-low)) (p .fields .diameter-high) (p .fields .dowels-high) a);
-    share-high = share-top (v .dowel .diameter) _ _ (v .positions .n) given;
+        (share-from (frameOf k (spaced m) (v .loads .fx) (v .loads .fy)) (v .dowel .diameter) (reachOf (v .dowel .diameter)) _ _
+        (v .positions .n) (p .fields .diameter-high) (omega arith) (p .fields .dowels-high) a);
+    share-high = share-top (v .dowel .diameter) (reachOf (v .dowel .diameter)) _ _ (v .positions .n) given;
   }
 
   pub within : DemandWithin d
@@ -136,8 +141,7 @@ module _ (v : Values) (p : Passed v) where
   passes u m h =
       let s = bracket m .some in
       let e = shareOver (of m .share + 2) (s .n) in
-      let b = across (m .grain) (v .positions .x) (v .positions .y) in
-      let pn : 0 < s .n = rw (s .is .number) (row-some b (v .positions .n) (s .is .dowel) (s .is .within)) in
+      let pn : 0 < s .n = row-some _ _ (v .positions .n) _ (s .n) (s .a1) (p .fields .dowels-low) (s .is) in
       let pe : Above0 e = record { num = mul-pos (omega arith) pn; den = lit< tt } in
       (s .n, pn, h (s .n) (s .a1) (s .is) e pe (above-not-below (j .diameter) (s .n) (s .a1) e (s .above)))
 

@@ -15,14 +15,14 @@ use Rattle.strength.specs.Shear.{AtMostR, bearing}
 use Rattle.codes.specs.Tables.{printedClasses, classOf, steelOf, kmodOf}
 use Rattle.strength.proofs.Falling.{falls}
 use Rattle.spacing.specs.declared.verdict.Fault.{Fault}
-use Rattle.spacing.specs.Spacing.{alongEnough, endPasses}
+use Rattle.spacing.specs.Spacing.{place, alongEnough, endPasses}
 use Rattle.spacing.specs.Search.{firstFrom, partner, firstPair}
 use Rattle.spacing.specs.Verdict.{fault, pairFault, endFault, edgeFault, verdictIn, memberVerdict, spacingVerdict}
-use Rattle.group.specs.Rows.{countTo, rowNumber, IsRow, NotAbove, NotBelow, SomeRowAbove, shareOver}
+use Rattle.group.specs.Rows.{countTo, OfRow, NotAbove, NotBelow, SomeRowAbove, shareOver}
 use Rattle.group.specs.Rows.NotBelow.{several}
-use Rattle.group.specs.Share.{leastTo, nearest}
+use Rattle.group.specs.Share.{leastTo, closestTo, windowNumber, windowClosest}
 use Rattle.group.proofs.Effective.{not-above-falls}
-use Rattle.group.proofs.RowLaws.{own-row, near, near-least, least-near, least-distance}
+use Rattle.group.proofs.RowLaws.{some-row, from-lowest}
 use Rattle.joint.specs.declared.Positions.{Positions}
 use Rattle.joint.specs.declared.Values.{Values}
 use Rattle.joint.specs.declared.report.Report.{Report}
@@ -169,7 +169,7 @@ module _ (class1 class2 fx fy t1 : ℕ) (places : Positions) (p : Passed (kinOf 
 
   -- all rows have n₀ dowels a₀ apart
   abbrev row : ℕ → ℕ → Type 0
-  row = IsRow (places .x) (places .y) (places .n)
+  row = OfRow (places .x) (places .y) (places .n) 120
 
   module _ (n₀ a₀ : ℕ) (some : row n₀ a₀) (every : (n a1 : ℕ) → row n a1 → (n ≡ n₀) × (1 < n → a1 ≡ a₀)) where
     not-above : (n a1 : ℕ) → row n a1 → (e : ℕ → Fraction) → NotAbove 12 n₀ a₀ (e n₀) → NotAbove 12 n a1 (e n)
@@ -215,8 +215,11 @@ module _ (class1 class2 fx fy t1 : ℕ) (places : Positions) (p : Passed (kinOf 
     not-enough u e pe nb f h = f (h .rows .0 n₀ a₀ some e pe nb)
 
 -- ---- four dowels: rows of 2, 600 apart
-two-rows : (i : ℕ) → i < 4 → (rowNumber (fourDowels .y) 4 i ≡ 2) × (nearest 200000 (fourDowels .x) (fourDowels .y) 4 i ≡ 600)
-unfolding countTo leastTo
+two-rows :
+    (i : ℕ) → i < 4 →
+    let z = place (fourDowels .y) i in
+    (windowNumber (fourDowels .y) 4 120 z ≡ 2) × (windowClosest (fourDowels .x) (fourDowels .y) 4 120 z ≡ 600)
+unfolding countTo leastTo closestTo
 two-rows zero l = (refl, refl)
 two-rows (suc zero) l = (refl, refl)
 two-rows (suc (suc zero)) l = (refl, refl)
@@ -224,33 +227,19 @@ two-rows (suc (suc (suc zero))) l = (refl, refl)
 two-rows (suc (suc (suc (suc i)))) l = absurd (omega arith)
 
 abbrev fourRow : ℕ → ℕ → Type 0
-fourRow = IsRow (fourDowels .x) (fourDowels .y) 4
+fourRow = OfRow (fourDowels .x) (fourDowels .y) 4 120
 
 four-every : (n a1 : ℕ) → fourRow n a1 → (n ≡ 2) × (1 < n → a1 ≡ 600)
-four-every n a1 r = (r .number ∙ two-rows (r .dowel) (r .within) .0, distance)
-  where
-    distance : 1 < n → a1 ≡ 600
-    distance m =
-        let x = fourDowels .x in
-        let y = fourDowels .y in
-        let i = r .dowel in
-        let l = r .distance m in
-        let t = two-rows i (r .within) .1 in
-        let close = near x y 4 200000 i (omega (arith, t)) in
-        omega (
-          arith,
-          t,
-          least-near x y 4 200000 i l (r .within) (own-row y i) close,
-          near-least x y 4 200000 l,
-          two-rows (l .one) (l .one-within) .1,
-        )
+four-every n a1 r =
+    let l = from-lowest (fourDowels .x) (fourDowels .y) 4 120 n a1 (lit≤ tt) r in
+    let t = two-rows (l .dowel) (l .within) in
+    (l .number ∙ t .0, λ m. l .distance m (omega (arith, t .1)) ∙ t .1)
 
 four-some : fourRow 2 600
 four-some =
-    let n = two-rows 0 (lit< tt) .0 in
-    let l = least-distance (fourDowels .x) (fourDowels .y) 4 0 (lit< tt) (omega (arith, n)) in
-    let r : fourRow 2 (l .0) = record { dowel = 0; within = lit< tt; number = sym n; distance = λ _. l .1 } in
-    subst (fourRow 2) (four-every 2 (l .0) r .1 (lit< tt)) r
+    let r = some-row (fourDowels .x) (fourDowels .y) 4 120 (lit≤ tt) in
+    let k = four-every (r .n) (r .a1) (r .is) in
+    subst (fourRow 2) (k .1 (omega (arith, k .0))) (subst (λ n. fourRow n (r .a1)) (k .0) (r .is))
 
 -- the effective number of 2 dowels 600 apart lies between these
 abbrev below2 : Fraction
@@ -261,19 +250,25 @@ above2 = 14695478 over 10000000
 
 -- ---- the lone dowel: a row of 1
 abbrev oneRow : ℕ → ℕ → Type 0
-oneRow = IsRow (oneDowel .x) (oneDowel .y) 1
+oneRow = OfRow (oneDowel .x) (oneDowel .y) 1 120
 
-lone : (i : ℕ) → i < 1 → rowNumber (oneDowel .y) 1 i ≡ 1
+lone : (i : ℕ) → i < 1 → windowNumber (oneDowel .y) 1 120 (place (oneDowel .y) i) ≡ 1
 unfolding countTo
 lone zero l = refl
 lone (suc i) l = absurd (omega arith)
 
 one-every : (n a1 : ℕ) → oneRow n a1 → (n ≡ 1) × (1 < n → a1 ≡ 0)
-one-every n a1 r = let e = r .number ∙ lone (r .dowel) (r .within) in (e, λ m. absurd (omega arith))
+one-every n a1 r =
+    let l = from-lowest (oneDowel .x) (oneDowel .y) 1 120 n a1 (lit≤ tt) r in
+    let e = l .number ∙ lone (l .dowel) (l .within) in
+    (e, λ m. absurd (omega arith))
 
+-- every number stands for its a1
 one-some : oneRow 1 0
 one-some =
-    record { dowel = 0; within = lit< tt; number = sym (lone 0 (lit< tt)); distance = λ m. absurd (omega arith) }
+    let r = some-row (oneDowel .x) (oneDowel .y) 1 120 (lit≤ tt) in
+    let e = one-every (r .n) (r .a1) (r .is) .0 in
+    record { inRow = r .is .inRow; row = r .is .row; number = sym e ∙ r .is .number; distance = λ m. absurd (omega arith) }
 
 -- ---- the theorem
 abbrev Holds : Starred → Type 0

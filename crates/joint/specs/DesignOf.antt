@@ -9,7 +9,7 @@ use Rattle.codes.specs.Tables.{woodOf, k90Of, steelOf, kmodOf, listed}
 use Rattle.strength.specs.declared.plane.Timber.{Timber}
 use Rattle.strength.specs.declared.plane.Plane.{Plane}
 use Rattle.spacing.specs.Spacing.{along, across, squaredForce}
-use Rattle.group.specs.Rows.{IsRow}
+use Rattle.group.specs.Rows.{reachOf, OfRow}
 use Rattle.joint.specs.declared.Member.{Member}
 use Rattle.joint.specs.declared.Members.{Members}
 use Rattle.joint.specs.declared.Dowel.{Dowel}
@@ -54,13 +54,13 @@ kmodIn l = listed (kmodOf (l .«service_class») (l .duration))
 abbrev pub countedPlanes : ℕ → ℕ → Fraction
 countedPlanes n p = cond (eqb n 1) (p over 2) (whole (n * p))
 
--- a member's force along the grain, and its rows
+-- a member's force along the grain, and its rows (02, A3) by its own along and across; each two of a row differ across by less than d
 abbrev pub carrierOf : Values → Member → Carrier
 carrierOf v m = record {
   along = forceAlong (v .loads) m;
   row =
-      IsRow (along (m .grain) (v .positions .x) (v .positions .y)) (across (m .grain) (v .positions .x) (v .positions .y))
-      (v .positions .n);
+      OfRow (along (m .grain) (v .positions .x) (v .positions .y)) (across (m .grain) (v .positions .x) (v .positions .y))
+      (v .positions .n) (reachOf (v .dowel .diameter));
 }
 
 abbrev pub designOf : Values → Design

@@ -11,6 +11,7 @@ use Rattle.spacing.specs.declared.verdict.Fault.{Fault}
 use Rattle.spacing.specs.Spacing.{along, across, squaredForce, Components, Given}
 use Rattle.group.specs.declared.member.Taken.{Taken}
 use Rattle.group.specs.declared.member.Both.{Both}
+use Rattle.group.specs.Rows.{reachOf}
 use Rattle.group.specs.Share.{memberShare}
 use Rattle.joint.specs.declared.Member.{Member}
 use Rattle.joint.specs.declared.Members.{Members}
@@ -72,7 +73,8 @@ pub record DemandWithin (d : Demand) : Type 0 where
 abbrev pub memberTaken : Member → Dowel → Loads → Positions → Taken
 memberTaken m w l p = record {
   along = forceAlong l m;
-  share = memberShare (w .diameter) (along (m .grain) (p .x) (p .y)) (across (m .grain) (p .x) (p .y)) (p .n);
+  share =
+      memberShare (w .diameter) (reachOf (w .diameter)) (along (m .grain) (p .x) (p .y)) (across (m .grain) (p .x) (p .y)) (p .n);
 }
 
 abbrev pub takenOf : Members → Dowel → Loads → Positions → Both

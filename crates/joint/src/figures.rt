@@ -38,7 +38,7 @@ const WHOLE: u64 = 10000;
 
 // What the use takes of both members.
 fn taken_of(members: Members, dowel: Dowel, loads: Loads, positions: Positions) -> Both
-    requires { ⌜ Given (dowel .diameter) (loads .fx) (loads .fy) (positions .n) × (1 ≤ positions .n) ⌝ }
+    requires { ⌜ Given (dowel .diameter) (loads .fx) (loads .fy) (positions .n) × (6 ≤ dowel .diameter) × (1 ≤ positions .n) ⌝ }
     ensures { λ r. ⌜ r ≡ takenOf members dowel loads positions ⌝ }
 {
     let x = positions.x;

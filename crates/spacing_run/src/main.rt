@@ -18,6 +18,9 @@ const FIELD: usize = 9;
 
 const BEFORE_DOWELS: usize = 14;
 
+// Tenths of a millimetre in one.
+const TENTHS: u64 = 10;
+
 fn digit(b: u8) -> u32
     ensures { λ r. ⌜ r ≤ 9 ⌝ }
 {
@@ -108,12 +111,12 @@ fn print_share(
     y: [i32; 64],
     count: usize,
 )
-    requires { ⌜ Given d fx fy count × (1 ≤ count) ⌝ }
+    requires { ⌜ Given d fx fy count × (6 ≤ d) × (1 ≤ count) ⌝ }
 {
     let view = view::view_of(which, m, fx, fy, x, y);
     let along = view.along;
     let across = view.across;
-    print(share::member_share(d, along, across, count));
+    print(share::member_share(d, TENTHS * d, along, across, count));
 }
 
 // A joint from field k on, with its forces and sizes within the limits of a record.
@@ -205,7 +208,7 @@ fn row(n: usize)
     x[7] = 4200;
     x[8] = 4800;
     x[9] = 5400;
-    let share = share::member_share(12, x, [0i32; 64], n);
+    let share = share::member_share(12, 12 * TENTHS, x, [0i32; 64], n);
     if 10000 < share {
         return;
     }

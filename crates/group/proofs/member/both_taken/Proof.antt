@@ -1,11 +1,22 @@
 -- Members whose grains agree have the same rows and the same force along.
 use borrow.Author.Needs.{needs}
+use Prim.Native.Nat.{ℕ}
+use mathlib.Core.Path.{_≡_}
+use mathlib.Core.List.{List}
+use lib.IntN.{ℤ}
 use native.Mathlib.Omega.{arith}
 use mir.Facts.{toZ-ofZ}
+use Rattle.spacing.specs.declared.view.Piece.{Piece}
+use Rattle.group.specs.declared.member.Taken.{Taken}
 use Rattle.group.specs.Share.{TakenFrom}
-use Rattle.group.proofs.RowLaws.{same-grain}
 use Rattle.group.proofs.member.both_taken.Statement.{statement}
 use Rattle.group.proofs.member.both_taken.Tie as tie
+
+-- a member takes what another with the same grain takes
+same-grain :
+    (m₁ m₂ : Piece) (d : ℕ) (fx fy : ℤ) (x y : List ℤ) (count : ℕ) (t : Taken) → m₁ .grain ≡ m₂ .grain →
+    TakenFrom m₁ d fx fy x y count t → TakenFrom m₂ d fx fy x y count t
+same-grain m₁ m₂ d fx fy x y count r e t = record { force = rw e at (t .force); share = rw e at (t .share) }
 
 first-is :
     (c : tie.After-one-taken) →

@@ -5,6 +5,7 @@ use Rattle.spacing.specs.declared.view.View.{View}
 use Rattle.spacing.specs.Spacing.{viewOf}
 use Rattle.spacing.proofs.Integers.{small-read}
 use Rattle.spacing.proofs.Faults.{view-force, view-components}
+use Rattle.group.specs.Rows.{reachOf}
 use Rattle.group.specs.Share.{MemberShared}
 use Rattle.group.proofs.member.one_taken.Statement.{statement}
 use Rattle.group.proofs.member.one_taken.Tie as tie
@@ -30,8 +31,10 @@ returns c =
       force =
           (rw (small-read (s .view-of .result .frame .force) small) at (c .before .size .ensures))
           ∙ view-force (v .which) (v .m) (v .fx) (v .fy) _ _ _ e;
-      share = subst (λ (w : View). MemberShared (v .d) (w .along) (w .across) (v .count) (c .member-share .result)) e (c .member-share .ensures);
+      share =
+          subst (λ (w : View). MemberShared (v .d) (reachOf (v .d)) (w .along) (w .across) (v .count) (c .member-share .result)) e
+          (c .member-share .ensures);
     }
 
 pub one-taken-spec : {M : Type 1} → statement M
-one-taken-spec = tie.close (tie.spec (λ c κs. search needs) (λ c κs. tt) (λ c κs. search needs) returns)
+one-taken-spec = tie.close (tie.spec (λ c κs. search needs) (λ c κs. tt) (λ c. search needs) (λ c κs. search needs) returns)
