@@ -1,6 +1,6 @@
 -- The tables of 01 and of 02's A1: what a code stands for, and which versions there are. A class that the table lacks is `Unknown`, another
 -- code `Unlisted`.
-use Rattle.std.specs.Prelude.{ℕ, ◌+◌, ◌*◌, ◌≤◌, ◌≡◌, Bool, true, false, cond, List, [], ◌∷◌, eqb}
+use Rattle.std.specs.Prelude.{ℕ, ◌+◌, ◌*◌, Bool, true, false, cond, List, [], ◌∷◌, eqb}
 use Rattle.codes.specs.declared.Kind.{Kind}
 use Rattle.codes.specs.declared.Kind.TheVariants.{Softwood, Hardwood}
 use Rattle.codes.specs.declared.Wood.{Wood}
@@ -50,25 +50,25 @@ printed_classes =
     ∷ line 11 (hardwood 900)
     ∷ []
 
--- what a table of classes has at a code
-unfoldable pub class_in : List (Line Class) → ℕ → Class
-class_in classes = lookup Unknown classes
+-- what the table has at a code
+unfoldable pub class_of : ℕ → Class
+class_of = lookup Unknown printed_classes
 
 -- whether it has the code
 abbrev pub is_known : Class → Bool
 is_known (Known w) = true
 is_known Unknown = false
 
+abbrev pub is_class : ℕ → Bool
+is_class code = is_known (class_of code)
+
 -- the wood at a code; every class of an accepted record is known
 abbrev pub wood_in : Class → Wood
 wood_in (Known w) = w
 wood_in Unknown = record { kind = Softwood; density = 0 }
 
--- what the figures and the writer ask of a table: its codes are those of a byte, its densities from 290 to 1,100 kg/m³
-pub record Sound (classes : List (Line Class)) : Type 0 where
-  pub byte : (code : ℕ) → is_known (class_in classes code) ≡ true → code ≤ 255
-  pub density_low : (code : ℕ) → is_known (class_in classes code) ≡ true → 290 ≤ (wood_in (class_in classes code)).density
-  pub density_high : (code : ℕ) → is_known (class_in classes code) ≡ true → (wood_in (class_in classes code)).density ≤ 1100
+abbrev pub wood_of : ℕ → Wood
+wood_of code = wood_in (class_of code)
 
 -- k90 in thousandths, d in mm: 1.35 + 0.015 d for softwood (000, (194)), 0.90 + 0.015 d for hardwood (000, (195)); for every d, 000's
 -- k90 = 1 for thin dowels is not used

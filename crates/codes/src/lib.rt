@@ -5,10 +5,9 @@ ghost use Rattle.codes.specs.Tables.{
   is_version,
   softwood,
   hardwood,
-  printed_classes,
-  class_in,
-  is_known,
-  wood_in,
+  class_of,
+  is_class,
+  wood_of,
   steel_of,
   kmod_of,
   listed,
@@ -52,7 +51,7 @@ pub enum Listed {
     Unlisted,
 }
 
-pub fn softwood(density: u64) -> Class
+fn softwood(density: u64) -> Class
     ensures { result ≡ softwood density }
 {
     Class::Known(Wood {
@@ -61,7 +60,7 @@ pub fn softwood(density: u64) -> Class
     })
 }
 
-pub fn hardwood(density: u64) -> Class
+fn hardwood(density: u64) -> Class
     ensures { result ≡ hardwood density }
 {
     Class::Known(Wood {
@@ -72,7 +71,7 @@ pub fn hardwood(density: u64) -> Class
 
 // The printed table of classes.
 pub fn class_of(class: u8) -> Class
-    ensures { result ≡ class_in printed_classes class }
+    ensures { result ≡ class_of class }
 {
     match class {
         1 => softwood(350),
@@ -90,20 +89,22 @@ pub fn class_of(class: u8) -> Class
     }
 }
 
-// Whether a table of classes has the code at which it has this.
-pub fn is_known(found: Class) -> bool
-    ensures { result ≡ is_known found }
+// Whether the table has the class.
+pub fn is_class(class: u8) -> bool
+    ensures { result ≡ is_class class }
 {
+    let found = class_of(class);
     match found {
         Class::Known(_) => true,
         Class::Unknown => false,
     }
 }
 
-// The wood that a table of classes has at a code, with density 0 where it lacks the code.
-pub fn wood_in(found: Class) -> Wood
-    ensures { result ≡ wood_in found }
+// The wood of a class, with density 0 where the table lacks it.
+pub fn wood_of(class: u8) -> Wood
+    ensures { result ≡ wood_of class }
 {
+    let found = class_of(class);
     match found {
         Class::Known(w) => w,
         Class::Unknown => Wood {

@@ -8,12 +8,9 @@ use lib.Dec.{eqb}
 use native.Mathlib.Omega.{arith}
 use native.Mathlib.Nat.{le_trans, le_of_eq, le_refl}
 use borrow.Rule.Slice.PartMut.{mid_of, mid_len}
-use Rattle.tables.specs.declared.Source.TheVariants.{Printed}
-use Rattle.tables.specs.Table.{printed}
 use Rattle.joint.specs.declared.report.Report.{Report}
 use Rattle.joint.specs.Returned.{unanswered, report_of}
 use Rattle.joint.proofs.Claims.{judged}
-use Rattle.joint.proofs.Faults.{right}
 use Rattle.spacing.specs.Verdict.{fault}
 use Rattle.line.specs.Line.{Lined}
 use Rattle.console.specs.declared.Came.{Came}
@@ -37,18 +34,18 @@ bare number r e =
 pub input_says : (buffer : List ℕ) (count : ℕ) (more : Bool) (r : Report) → r ≡ input_report buffer count more → InputJudged buffer count more r
 unfolding input_report
 input_says buffer count true r e = bare 4 r e
-input_says buffer count false r e = (judged (right Printed buffer) e).claim
+input_says buffer count false r e = (judged e).claim
 
 -- which report is made, by whether more came
 pub input_long : (buffer : List ℕ) (count : ℕ) (more : Bool) (r : Report) → more ≡ true → r ≡ unanswered (fault 4 0 0 0)
     → r ≡ input_report buffer count more
 unfolding input_report
-input_long buffer count more r m e = e ∙ ap (λ (b : Bool). cond b (unanswered (fault 4 0 0 0)) (report_of printed (take count buffer))) (sym m)
+input_long buffer count more r m e = e ∙ ap (λ (b : Bool). cond b (unanswered (fault 4 0 0 0)) (report_of (take count buffer))) (sym m)
 
-pub input_judged : (buffer : List ℕ) (count : ℕ) (more : Bool) (r : Report) → more ≡ false → r ≡ report_of printed (take count buffer)
+pub input_judged : (buffer : List ℕ) (count : ℕ) (more : Bool) (r : Report) → more ≡ false → r ≡ report_of (take count buffer)
     → r ≡ input_report buffer count more
 unfolding input_report
-input_judged buffer count more r m e = e ∙ ap (λ (b : Bool). cond b (unanswered (fault 4 0 0 0)) (report_of printed (take count buffer))) (sym m)
+input_judged buffer count more r m e = e ∙ ap (λ (b : Bool). cond b (unanswered (fault 4 0 0 0)) (report_of (take count buffer))) (sym m)
 
 pub both : (buffer : List ℕ) (count : ℕ) (more : Bool) (r : Report) → r ≡ input_report buffer count more
     → InputReported buffer count more r

@@ -5,7 +5,7 @@ use native.Mathlib.Decide.{le_ind}
 use native.Mathlib.Omega.{arith}
 use mathlib.Core.Path.{◌≡◌, refl, sym, ap, ◌∙◌}
 use mathlib.Core.List.{List}
-use mathlib.Core.Bool.{Bool, true, false, ◌&&◌, and-false, and-eq-true_iff}
+use mathlib.Core.Bool.{Bool, true, false, and-false}
 use borrow.Author.Tests.{leb-true, leb-false}
 use lib.Dec.{leb}
 use lib.IntN.{ℤ, pos}
@@ -13,19 +13,20 @@ use lib.ListN.{length, get_or, set, replicate, length-set}
 use lib.Seq.{set_out}
 use Rattle.numbers.specs.Numbers.{i32_at, coordinate}
 use Rattle.joint.specs.Layout.{position_field, column}
+use Rattle.joint.specs.Stage.{eighths}
 use Rattle.joint.specs.Refusal.{coordinates}
 
-coordinates_none : (l : List ℤ) → coordinates l 0 ≡ true
+pub coordinates_none : (l : List ℤ) → coordinates l 0 ≡ true
 unfolding coordinates
 coordinates_none l = refl
 
-coordinates_more : (l : List ℤ) (i : ℕ) → coordinates l i ≡ true → coordinate (get_or l i (pos 0)) ≡ true
+pub coordinates_more : (l : List ℤ) (i : ℕ) → coordinates l i ≡ true → coordinate (get_or l i (pos 0)) ≡ true
     → coordinates l (i + 1) ≡ true
 unfolding coordinates
 coordinates_more l i p q = rw add-one (simp p q)
 
 -- a number that is none decides for every longer scan
-coordinates_stop : (l : List ℤ) (i : ℕ) → coordinate (get_or l i (pos 0)) ≡ false → (n : ℕ) → i < n → coordinates l n ≡ false
+pub coordinates_stop : (l : List ℤ) (i : ℕ) → coordinate (get_or l i (pos 0)) ≡ false → (n : ℕ) → i < n → coordinates l n ≡ false
 unfolding coordinates
 coordinates_stop l i e n h =
     le_ind (λ (m : ℕ). coordinates l m ≡ false)
@@ -33,27 +34,6 @@ coordinates_stop l i e n h =
     (λ m _ p. simp p)
     n
     h
-
--- the scan of x and y together: a pair is right where both its numbers are
-module _ (x y : List ℤ) where
-  pub pairs_none : (coordinates x 0 && coordinates y 0) ≡ true
-  pairs_none = simp (coordinates_none x, coordinates_none y)
-
-  pub pairs_more : (i : ℕ) → (coordinates x i && coordinates y i) ≡ true
-      → (coordinate (get_or x i (pos 0)) && coordinate (get_or y i (pos 0))) ≡ true
-      → (coordinates x (i + 1) && coordinates y (i + 1)) ≡ true
-  pairs_more i p q =
-      let a = (and-eq-true_iff _ _).0 p in
-      let b = (and-eq-true_iff _ _).0 q in
-      simp (coordinates_more x i a.0 b.0, coordinates_more y i a.1 b.1)
-
-  pub pairs_stop : (i : ℕ) → (coordinate (get_or x i (pos 0)) && coordinate (get_or y i (pos 0))) ≡ false
-      → (n : ℕ) → i < n → (coordinates x n && coordinates y n) ≡ false
-  pairs_stop i e n h = of (coordinate (get_or x i (pos 0))) refl
-    where
-      of : (b : Bool) → coordinate (get_or x i (pos 0)) ≡ b → (coordinates x n && coordinates y n) ≡ false
-      of true q = rw (coordinates_stop y i (simp q at e) n h) (and-false (coordinates x n))
-      of false q = rw (coordinates_stop x i q n h)
 
 module _ (f : ℕ → ℤ) where
   pub column_length : (n : ℕ) → length (column f n) ≡ 64
@@ -100,10 +80,10 @@ column_same f g (suc n) h =
     ap (λ (l : List ℤ). set l n (f n)) (column_same f g n (λ i l. h i (omega arith)))
     ∙ ap (λ (z : ℤ). set (column g n) n z) (h n (omega arith))
 
--- x and y of a dowel, in every eighth byte from 2 and from 6 on
-module _ (part : List ℕ) (i : ℕ) where
-  pub x_at : i32_at part (2 + 8 * i) ≡ position_field part 0 i
-  x_at = ap (i32_at part) (omega arith)
+-- x and y of the dowels, in every eighth byte from 2 and from 6 on
+module _ (part : List ℕ) (n : ℕ) where
+  pub x_column : column (eighths part 2) n ≡ column (position_field part 0) n
+  x_column = column_same _ _ n (λ i l. ap (i32_at part) (omega arith))
 
-  pub y_at : i32_at part (6 + 8 * i) ≡ position_field part 1 i
-  y_at = ap (i32_at part) (omega arith)
+  pub y_column : column (eighths part 6) n ≡ column (position_field part 1) n
+  y_column = column_same _ _ n (λ i l. ap (i32_at part) (omega arith))

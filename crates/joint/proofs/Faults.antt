@@ -1,12 +1,10 @@
--- Laws of the order: a table's refusals before a record's; of refusals 10 to 12, what values that passed 1 to 9 give to the spacing rules, and
--- where a fault stands.
+-- Laws of refusals 10 to 12: what values that passed 1 to 9 give to the spacing rules, and where a fault stands in the order.
 use Prim.Native.Nat.{ℕ, zero, suc, ◌+◌, ◌≤◌, ◌<◌, suc-le-suc}
 use native.Mathlib.Omega.{arith}
 use mathlib.Core.Path.{◌≡◌, refl, sym, ap, ◌∙◌}
 use mathlib.Core.List.{List, [], ◌∷◌, ◌++◌, map}
 use mathlib.Core.Bool.{Bool, true, false, cond, not, ◌&&◌, and-eq-true_iff}
 use borrow.Author.Tests.{leb-true, eqb-true, eqb-false, not-false, ne_eqb}
-use native.Mathlib.Decide.{ℕ_discrete}
 use lib.Dec.{leb, ltb, eqb}
 use lib.IntN.{ℤ, pos, negsuc, nat_abs}
 use Rattle.spacing.specs.declared.verdict.Fault.{Fault}
@@ -16,13 +14,7 @@ use Rattle.spacing.specs.Verdict.{fault, or_else, pair_fault, end_fault, edge_fa
 use Rattle.joint.specs.Layout.{values_of}
 use Rattle.joint.specs.Order.{holding, tests, position}
 use Rattle.numbers.specs.Numbers.{force}
-use Rattle.joint.specs.Refusal.{loads_within, fields_within, no_force, script_tests, designer_tests, drill_tests, record_tests}
-use Rattle.codes.specs.Tables.{Sound}
-use Rattle.tables.specs.declared.Source.{Source}
-use Rattle.tables.specs.declared.Source.TheVariants.{Printed, Own}
-use Rattle.tables.specs.Tests.{Test, test, first_holding}
-use Rattle.tables.specs.Table.{Table, table_of, table_number, Loads}
-use Rattle.tables.proofs.Loading.{table_sound}
+use Rattle.joint.specs.Refusal.{loads_within, fields_within, no_force, Test, test, script_tests, designer_tests, drill_tests, first_holding}
 use Rattle.joint.specs.Refusal.{fault10, fault11, fault12, is_fault, frame, alongs, acrosses, drill_fault}
 use Rattle.joint.specs.Refusal.{refusal_number, refusal_of, zero_values, reading_of, outcome, outcome_of}
 use Rattle.joint.specs.declared.Reading.{Reading}
@@ -35,18 +27,8 @@ use Rattle.joint.specs.declared.layout.Parts.{Parts}
 use Rattle.joint.specs.declared.layout.Layout.{Layout}
 use Rattle.joint.specs.declared.layout.Layout.TheVariants.{Laid, Refused as LayoutRefused}
 use Rattle.joint.proofs.Accepted.{fields_hold}
-use Rattle.joint.proofs.Holding.{first_place, place_zero, place_kept, numbered, no_number, first_zero, first_kept, both_zero, counts_from, by_place}
+use Rattle.joint.proofs.Holding.{first_place, place_zero, place_kept, numbered, no_number, first_zero, first_kept, counts_from, by_place}
 use Rattle.joint.proofs.Stages.{layout_number_lem, laid_number, layout_refused, stage_number_lem, stage_passed, stage_refused}
-
--- ---- what is known of every table that a call can name
-pub record Right (t : Table) : Type 0 where
-  pub no_zero : numbered t.tests ≡ true
-  pub sound : Loads t → Sound t.classes
-
-pub right : (source : Source) (b : List ℕ) → Right (table_of source b)
-unfolding numbered
-right Printed b = record { no_zero = refl; sound = table_sound Printed b }
-right Own b = record { no_zero = refl; sound = table_sound Own b }
 
 -- ---- what 7 and 9 leave
 small_force : (z : ℤ) → force z ≡ true → nat_abs z ≤ 1000000
@@ -59,12 +41,12 @@ some_force zero zero h = let z : ◌≡◌ {A = ℕ} 0 1 = cc in absurd (omega a
 some_force zero (suc b) h = omega arith
 some_force (suc a) b h = omega arith
 
-pub given : (t : Table) (v : Values) → not (fields_within t v) ≡ false → no_force v.loads ≡ false
+pub given : (v : Values) → not (fields_within v) ≡ false → no_force v.loads ≡ false
     → Given v.dowel.diameter v.loads.fx v.loads.fy v.positions.n
 unfolding fields_within loads_within no_force
-given t v h g =
-    let p = simp and-eq-true_iff at (not-false (fields_within t v) h) in
-    let f = fields_hold t v h in
+given v h g =
+    let p = simp and-eq-true_iff at (not-false (fields_within v) h) in
+    let f = fields_hold v h in
     let s = some_force (nat_abs v.loads.fx) (nat_abs v.loads.fy) g in
     search small_force
 
@@ -194,49 +176,28 @@ unfolding Clean
 drill_none v h = drill_row v ∙ row_clean (drill_faults v) (rw drill_row at h)
 
 -- ---- the whole order
-pub by_number : (t : Table) (s : List ℕ) → first_holding (record_tests t s) ≡ first_place 1 (holding (record_tests t s))
-unfolding counts_from
-by_number t s = by_place 1 (record_tests t s) refl
+-- the tests of 1 to 9
+abbrev before10 : List ℕ → List Test
+before10 s = script_tests s ++ designer_tests s
 
--- a table that did not load refuses the record, whatever it is
-pub table_first : (t : Table) (s : List ℕ) → (Loads t → ⊥) → refusal_number t s ≡ table_number t
-unfolding refusal_number
-table_first t s f = first_kept t.tests (record_tests t s) f
+pub by_number : (s : List ℕ) → refusal_number s ≡ first_place 1 (holding (before10 s))
+unfolding refusal_number counts_from
+by_number s = by_place 1 (before10 s) refl
 
-pub not_loaded : (t : Table) (s : List ℕ) → (Loads t → ⊥) → refusal_of t s ≡ fault (table_number t) 0 0 0
+pub position_first : (s : List ℕ) → position (refusal_of s) ≡ first_place 1 (holding (tests s))
 unfolding refusal_of
-not_loaded t s f = let e = table_first t s f in simp (e, ne_eqb (table_number t) 0 f)
-
-pub not_read : (t : Table) (s : List ℕ) → (Loads t → ⊥) → reading_of t s ≡ record { number = table_number t; values = zero_values }
-unfolding reading_of
-not_read t s f = let e = table_first t s f in simp (e, ne_eqb (table_number t) 0 f)
-
--- by a table that loads, the record's own tests decide
-pub number_of_record : (t : Table) → Right t → (s : List ℕ) → Loads t → refusal_number t s ≡ first_holding (record_tests t s)
-unfolding refusal_number
-number_of_record t k s l = first_zero t.tests (record_tests t s) k.no_zero l
-
-pub unrefused : (t : Table) → Right t → (s : List ℕ) → refusal_number t s ≡ 0 → Loads t × (first_holding (record_tests t s) ≡ 0)
-unfolding refusal_number
-unrefused t k s h = both_zero t.tests (record_tests t s) k.no_zero h
-
-pub position_first : (t : Table) → Right t → (s : List ℕ) → Loads t → position (refusal_of t s) ≡ first_place 1 (holding (tests t s))
-unfolding refusal_of
-position_first t k s l = of (eqb (refusal_number t s) 0) refl
+position_first s = of (eqb (refusal_number s) 0) refl
   where
-    is_place : refusal_number t s ≡ first_place 1 (holding (record_tests t s))
-    is_place = number_of_record t k s l ∙ by_number t s
-
-    of : (b : Bool) → eqb (refusal_number t s) 0 ≡ b → position (refusal_of t s) ≡ first_place 1 (holding (tests t s))
+    of : (b : Bool) → eqb (refusal_number s) 0 ≡ b → position (refusal_of s) ≡ first_place 1 (holding (tests s))
     of true e =
         simp e
         (drill_position s
         ∙ sym
-        (place_zero 0 10 (holding (record_tests t s)) (holding (drill_tests s)) (sym is_place ∙ eqb-true _ _ e) refl))
+        (place_zero 0 10 (holding (before10 s)) (holding (drill_tests s)) (sym (by_number s) ∙ eqb-true _ _ e) refl))
     of false e =
         simp e
-        (is_place
-        ∙ sym (place_kept 0 (holding (record_tests t s)) (holding (drill_tests s)) (λ z. eqb-false _ _ e (is_place ∙ z))))
+        (by_number s
+        ∙ sym (place_kept 0 (holding (before10 s)) (holding (drill_tests s)) (λ z. eqb-false _ _ e (by_number s ∙ z))))
 
 -- the first fault of a row gives its number
 Numbered : List ℕ → List Fault → Type 0
@@ -292,94 +253,81 @@ drill_number s =
     ∙ row_number (10 ∷ 11 ∷ 12 ∷ 10 ∷ 11 ∷ 12 ∷ []) (drill_faults v)
     (numbered10 1 v, (numbered11 1 v, (numbered12 1 v, (numbered10 2 v, (numbered11 2 v, (numbered12 2 v, tt))))))
 
--- of all tests, the table's before the record's, the first that holds gives its number
-record_first : (t : Table) → Right t → (s : List ℕ) → Loads t → (b : Bool) → eqb (refusal_number t s) 0 ≡ b
-    → (refusal_of t s).number ≡ first_holding (tests t s)
-unfolding refusal_of numbered
-record_first t k s l true e =
-    simp e
-    (drill_number s ∙ sym (first_zero (record_tests t s) (drill_tests s) refl (sym (number_of_record t k s l) ∙ eqb-true _ _ e)))
-record_first t k s l false e =
-    simp e
-    (number_of_record t k s l
-    ∙ sym (first_kept (record_tests t s) (drill_tests s) (λ z. eqb-false _ _ e (number_of_record t k s l ∙ z))))
-
-pub number_first : (t : Table) → Right t → (s : List ℕ) → (refusal_of t s).number ≡ first_holding (t.tests ++ tests t s)
-number_first t k s = go (ℕ_discrete (table_number t) 0)
+-- of all tests the first that holds gives its number
+pub number_first : (s : List ℕ) → (refusal_of s).number ≡ first_holding (tests s)
+unfolding refusal_of refusal_number numbered
+number_first s = of (eqb (refusal_number s) 0) refl
   where
-    go : Dec (Loads t) → (refusal_of t s).number ≡ first_holding (t.tests ++ tests t s)
-    go (yes l) = record_first t k s l (eqb (refusal_number t s) 0) refl ∙ sym (first_zero t.tests (tests t s) k.no_zero l)
-    go (no f) = ap (λ (z : Fault). z.number) (not_loaded t s f) ∙ sym (first_kept t.tests (tests t s) f)
+    of : (b : Bool) → eqb (refusal_number s) 0 ≡ b → (refusal_of s).number ≡ first_holding (tests s)
+    of true e = simp e (drill_number s ∙ sym (first_zero (before10 s) (drill_tests s) refl (eqb-true _ _ e)))
+    of false e = simp e (sym (first_kept (before10 s) (drill_tests s) (eqb-false _ _ e)))
 
-pub outcome_accepted : (t : Table) (s : List ℕ) (f : Fault) → f ≡ drill_fault (values_of s) → refusal_number t s ≡ 0 → f.number ≡ 0
-    → record { number = 0; member = 0; first = 0; second = 0; values = values_of s } ≡ outcome_of t s
+pub outcome_accepted : (s : List ℕ) (f : Fault) → f ≡ drill_fault (values_of s) → refusal_number s ≡ 0 → f.number ≡ 0
+    → record { number = 0; member = 0; first = 0; second = 0; values = values_of s } ≡ outcome_of s
 unfolding outcome_of outcome refusal_of
-outcome_accepted t s f e h g = simp (h, drill_none (values_of s) (ap (λ (z : Fault). z.number) (sym e) ∙ g))
+outcome_accepted s f e h g = simp (h, drill_none (values_of s) (ap (λ (z : Fault). z.number) (sym e) ∙ g))
 
 -- ---- what reading answers, by what its stages answered
-module _ (t : Table) (s : List ℕ) where
-  unread : {n : ℕ} {z : Values} → z ≡ zero_values → n ≡ refusal_number t s → (n ≡ 0 → ⊥) → record { number = n; values = z } ≡ reading_of t s
+module _ (s : List ℕ) where
+  unread : {n : ℕ} {z : Values} → z ≡ zero_values → n ≡ refusal_number s → (n ≡ 0 → ⊥) → record { number = n; values = z } ≡ reading_of s
   unfolding reading_of
   unread {n} y e h = simp (y, ← e, ne_eqb n 0 h)
 
-  pub refused_table : {n : ℕ} {z : Values} → n ≡ table_number t → (n ≡ 0 → ⊥) → z ≡ zero_values → record { number = n; values = z } ≡ reading_of t s
-  refused_table e h y = unread y (e ∙ sym (table_first t s (λ l. h (e ∙ l)))) h
-
-  module _ (right : Right t) (loads : Loads t) {l : Layout} (e : l ≡ layout (first_holding (script_tests s)) (parts_of s)) where
+  module _ {l : Layout} (e : l ≡ layout (first_holding (script_tests s)) (parts_of s)) where
     pub refused_layout : {m n : ℕ} {z : Values} → l ≡ LayoutRefused m → n ≡ layout_number l → z ≡ zero_values
-        → record { number = n; values = z } ≡ reading_of t s
+        → record { number = n; values = z } ≡ reading_of s
+    unfolding refusal_number
     refused_layout h q y =
         let f = layout_refused _ _ e h in
         let k = q ∙ layout_number_lem _ _ e in
-        unread y (k ∙ sym (number_of_record t right s loads ∙ first_kept (script_tests s) (designer_tests t s) f)) (λ z. f (sym k ∙ z))
+        unread y (k ∙ sym (first_kept (script_tests s) (designer_tests s) f)) (λ z. f (sym k ∙ z))
 
-    module _ {p : Parts} (h : l ≡ Laid p) {v : Values} (w : v ≡ values_of s) {r : Stage} (g : r ≡ stage (first_holding (value_tests t v))) where
-      number_is : refusal_number t s ≡ first_holding (value_tests t v)
-      unfolding numbered
-      number_is =
-          number_of_record t right s loads ∙ rw w (first_zero (script_tests s) (designer_tests t s) refl (laid_number _ _ e h))
+    module _ {p : Parts} (h : l ≡ Laid p) {v : Values} (w : v ≡ values_of s) {r : Stage} (g : r ≡ stage (first_holding (value_tests v))) where
+      number_is : refusal_number s ≡ first_holding (value_tests v)
+      unfolding refusal_number numbered
+      number_is = rw w (first_zero (script_tests s) (designer_tests s) refl (laid_number _ _ e h))
 
       pub refused_values : {m n : ℕ} {z : Values} → r ≡ Refused m → n ≡ stage_number r → z ≡ zero_values
-          → record { number = n; values = z } ≡ reading_of t s
+          → record { number = n; values = z } ≡ reading_of s
       refused_values k q y =
           let f = stage_refused _ g k in
           let o = q ∙ stage_number_lem _ g in
           unread y (o ∙ sym number_is) (λ z. f (sym o ∙ z))
 
-      pub read_whole : r ≡ Passed → record { number = 0; values = v } ≡ reading_of t s
+      pub read_whole : r ≡ Passed → record { number = 0; values = v } ≡ reading_of s
       unfolding reading_of
       read_whole k = simp (number_is ∙ stage_passed _ g k, w)
 
 -- ---- the outcome, by what reading answered
-module _ (t : Table) (s : List ℕ) {r : Reading} (e : r ≡ reading_of t s) where
-  number_of : r.number ≡ refusal_number t s
+module _ (s : List ℕ) {r : Reading} (e : r ≡ reading_of s) where
+  number_of : r.number ≡ refusal_number s
   unfolding reading_of
   number_of = ap (λ (z : Reading). z.number) e
 
   pub refused_reading : (r.number ≡ 0 → ⊥)
-      → record { number = r.number; member = 0; first = 0; second = 0; values = r.values } ≡ outcome_of t s
+      → record { number = r.number; member = 0; first = 0; second = 0; values = r.values } ≡ outcome_of s
   unfolding reading_of outcome_of outcome refusal_of
-  refused_reading h = rw e (simp (ne_eqb (refusal_number t s) 0 (λ z. h (number_of ∙ z))))
+  refused_reading h = rw e (simp (ne_eqb (refusal_number s) 0 (λ z. h (number_of ∙ z))))
 
   module _ (h : r.number ≡ 0) where
-    none_numbered : refusal_number t s ≡ 0
+    none_numbered : refusal_number s ≡ 0
     none_numbered = sym number_of ∙ h
 
     values_are : r.values ≡ values_of s
     unfolding reading_of
     values_are = ap (λ (z : Reading). z.values) e ∙ simp none_numbered
 
-    pub drill_given : Right t → Given r.values.dowel.diameter r.values.loads.fx r.values.loads.fy r.values.positions.n
-    unfolding numbered
-    drill_given right =
-        let n = no_number (record_tests t s) refl (unrefused t right s none_numbered).1 in
-        rw values_are (given t (values_of s) (n.none 6) (n.none 8))
+    pub drill_given : Given r.values.dowel.diameter r.values.loads.fx r.values.loads.fy r.values.positions.n
+    unfolding refusal_number numbered
+    drill_given =
+        let n = no_number (before10 s) refl none_numbered in
+        rw values_are (given (values_of s) (n.none 6) (n.none 8))
 
     module _ {f : Fault} (d : f ≡ drill_fault r.values) where
       pub refused_drill : {z : Values} → (f.number ≡ 0 → ⊥) → z ≡ zero_values
-          → record { number = f.number; member = f.member; first = f.first; second = f.second; values = z } ≡ outcome_of t s
+          → record { number = f.number; member = f.member; first = f.first; second = f.second; values = z } ≡ outcome_of s
       unfolding outcome_of outcome refusal_of
       refused_drill n y = simp (none_numbered, ← values_are, ← d, ne_eqb f.number 0 n, y)
 
-      pub accepted : f.number ≡ 0 → record { number = 0; member = 0; first = 0; second = 0; values = r.values } ≡ outcome_of t s
-      accepted n = rw values_are (outcome_accepted t s f (rw values_are at d) none_numbered n)
+      pub accepted : f.number ≡ 0 → record { number = 0; member = 0; first = 0; second = 0; values = r.values } ≡ outcome_of s
+      accepted n = rw values_are (outcome_accepted s f (rw values_are at d) none_numbered n)

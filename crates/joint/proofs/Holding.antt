@@ -2,7 +2,6 @@
 use Prim.Native.Nat.{ℕ, zero, suc, ◌+◌, ◌≤◌, ◌<◌, suc-le-suc}
 use native.Mathlib.Nat.{not-suc-le-zero, le_of_suc-le-suc}
 use native.Mathlib.Omega.{arith}
-use native.Mathlib.Decide.{ℕ_discrete}
 use mathlib.Core.Path.{◌≡◌, refl, sym, ap, ◌∙◌}
 use mathlib.Core.List.{List, [], ◌∷◌, ◌++◌}
 use mathlib.Core.Bool.{Bool, true, false, ◌&&◌, and-eq-true_iff}
@@ -11,7 +10,7 @@ use lib.Dec.{ltb, eqb}
 use borrow.Author.Tests.{ltb-true, eqb-true}
 use lib.ListN.{length, get_or}
 use Rattle.joint.specs.Order.{FirstAt, NoneHolds, holding}
-use Rattle.tables.specs.Tests.{Test, first_holding}
+use Rattle.joint.specs.Refusal.{Test, first_holding}
 
 -- where the first test that holds stands, the first of all standing at k; 0 where none holds
 unfoldable pub first_place : ℕ → List Bool → ℕ
@@ -139,14 +138,6 @@ first_kept (t ∷ xs) ys h = of t.holds refl (first_kept xs ys)
         → first_holding (t ∷ (xs ++ ys)) ≡ first_holding (t ∷ xs)
     of true e r = taken t (xs ++ ys) e ∙ sym (taken t xs e)
     of false e r = left t (xs ++ ys) e ∙ r (λ z. h (left t xs e ∙ z)) ∙ sym (left t xs e)
-
--- none of two lists holds
-pub both_zero : (xs ys : List Test) → numbered xs ≡ true → first_holding (xs ++ ys) ≡ 0 → (first_holding xs ≡ 0) × (first_holding ys ≡ 0)
-both_zero xs ys n h = go (ℕ_discrete (first_holding xs) 0)
-  where
-    go : Dec (first_holding xs ≡ 0) → (first_holding xs ≡ 0) × (first_holding ys ≡ 0)
-    go (yes z) = (z, sym (first_zero xs ys n z) ∙ h)
-    go (no f) = absurd (f (sym (first_kept xs ys f) ∙ h))
 
 -- ---- where the numbers count up from k, a number is its test's place
 unfoldable pub counts_from : ℕ → List Test → Bool

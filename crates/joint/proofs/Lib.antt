@@ -14,4 +14,3 @@ pub mod Answers
 pub mod Claims
 pub mod Meaning
 pub mod Stars
-pub mod Alike

@@ -19,14 +19,12 @@ use Rattle.chain.specs.Chain.{number_at, offset_of, length_of, bound, chained, R
 use Rattle.chain.proofs.Laws.{filled_at, follow, inside}
 use Rattle.joint.specs.Layout.{version, pair_count, pair_offset, pair_length, pair_sum, part_of_pair, kind_of_pair, pair_of_kind, part_of_kind}
 use Rattle.joint.specs.Layout.{members_in, dowel_in, positions_in, loads_in, values_of}
-use Rattle.joint.specs.Refusal.{refusal1, refusal2, refusal3, refusal4, refusal5, refusal6, positions_length, one_if, once, script_tests}
-use Rattle.tables.specs.Tests.{first_holding}
+use Rattle.joint.specs.Refusal.{refusal1, refusal2, refusal3, refusal4, refusal5, refusal6, positions_length, one_if, once, first_holding, script_tests}
 use Rattle.joint.specs.Refusal.{between, member_within, members_within, dowel_within, positions_within, loads_within, fields_within}
 use Rattle.joint.specs.Refusal.{outline_empty, empty_outlines, no_force}
 use Rattle.joint.specs.Stage.{Parted, Bounded, present, part_at, found, part_tests, parts_of, layout, layout_number, Stretch, LaidOut}
 use Rattle.joint.specs.Stage.{stage, stage_number}
 use Rattle.joint.specs.Refusal.{value_tests}
-use Rattle.tables.specs.Table.{Table}
 use Rattle.joint.specs.declared.Members.{Members}
 use Rattle.joint.specs.declared.Dowel.{Dowel}
 use Rattle.joint.specs.declared.Positions.{Positions}
@@ -410,22 +408,22 @@ unfolding values_of
 values_read o k a m b w c n d l = cc
 
 -- ---- refusals 7 to 9, one after the other
-module _ (t : Table) (v : Values) where
+module _ (v : Values) where
   abbrev tested : Stage
-  tested = stage (first_holding (value_tests t v))
+  tested = stage (first_holding (value_tests v))
 
-  pub fields_test : {p m n d s q l : Bool} → p ≡ between 1 2 v.members.planes → m ≡ member_within t v.members.member1
-      → n ≡ member_within t v.members.member2 → d ≡ between 6 30 v.dowel.diameter → s ≡ between 1 3 v.dowel.steel
+  pub fields_test : {p m n d s q l : Bool} → p ≡ between 1 2 v.members.planes → m ≡ member_within v.members.member1
+      → n ≡ member_within v.members.member2 → d ≡ between 6 30 v.dowel.diameter → s ≡ between 1 3 v.dowel.steel
       → q ≡ positions_within v.positions → l ≡ loads_within v.loads
-      → not (p && m && n && (d && s) && q && l) ≡ not (fields_within t v)
+      → not (p && m && n && (d && s) && q && l) ≡ not (fields_within v)
   unfolding members_within dowel_within fields_within
   fields_test p m n d s q l = simp (p, m, n, d, s, q, l)
 
-  pub values_outside : {f : Bool} → f ≡ true → f ≡ not (fields_within t v) → Refused 7 ≡ tested
+  pub values_outside : {f : Bool} → f ≡ true → f ≡ not (fields_within v) → Refused 7 ≡ tested
   unfolding first_holding stage
   values_outside h e = simp (← e, h)
 
-  module _ {f : Bool} (h : f ≡ false) (e : f ≡ not (fields_within t v)) {a b : Bool} (p : a ≡ outline_empty v.members.member1.outline)
+  module _ {f : Bool} (h : f ≡ false) (e : f ≡ not (fields_within v)) {a b : Bool} (p : a ≡ outline_empty v.members.member1.outline)
       (q : b ≡ outline_empty v.members.member2.outline) where
     pub values_empty : (a || b) ≡ true → Refused 8 ≡ tested
     unfolding first_holding stage empty_outlines

@@ -1,9 +1,7 @@
 -- What the formulas take of a record's values: the one place where codes, tables and grain become numbers.
 use Rattle.std.specs.Prelude.{ℕ, ◌*◌, cond, [], ◌∷◌, eqb, nat_abs}
 use Rattle.strength.specs.Fraction.{Fraction, ◌over◌, whole}
-use Rattle.codes.specs.Tables.{k90_of, steel_of, kmod_of, listed}
-use Rattle.codes.specs.declared.Wood.{Wood}
-use Rattle.tables.specs.Table.{Table, wood_of}
+use Rattle.codes.specs.Tables.{wood_of, k90_of, steel_of, kmod_of, listed}
 use Rattle.strength.specs.declared.plane.Timber.{Timber}
 use Rattle.strength.specs.declared.plane.Plane.{Plane}
 use Rattle.spacing.specs.Spacing.{along, across, squared_force}
@@ -13,7 +11,6 @@ use Rattle.joint.specs.declared.Members.{Members}
 use Rattle.joint.specs.declared.Dowel.{Dowel}
 use Rattle.joint.specs.declared.Loads.{Loads}
 use Rattle.joint.specs.declared.Values.{Values}
-use Rattle.joint.specs.declared.figures.Woods.{Woods}
 use Rattle.joint.specs.Design.{Carrier, Design}
 
 -- c, 'the size (never negative) of the whole force's component along the grain'
@@ -21,35 +18,28 @@ abbrev pub force_along : Loads → Member → ℕ
 force_along l m = nat_abs (along m.grain l.fx l.fy)
 
 -- ---- Strength of a shear plane
--- the wood of each member, which the table has at its class
-abbrev pub woods_of : Table → Members → Woods
-woods_of t m = record { member1 = wood_of t m.member1.class; member2 = wood_of t m.member2.class }
-
--- a member in a shear plane: the density of its wood, k90 by the wood's kind; cos²α is the squared component along over fx² + fy²
-abbrev pub plane_member : ℕ → Wood → Member → ℕ → ℕ → Timber
-plane_member d wood m c total = record {
-  density = wood.density;
-  k90 = k90_of wood.kind d;
+-- a member in a shear plane: the density of its class, k90 by the kind of its wood; cos²α is the squared component along over fx² + fy²
+abbrev pub plane_member : ℕ → Member → ℕ → ℕ → Timber
+plane_member d m c total = record {
+  density = (wood_of m.class).density;
+  k90 = k90_of (wood_of m.class).kind d;
   along = c * c;
   total = total;
   thickness = m.thickness;
 }
 
-unfoldable pub plane_in : Woods → Members → Dowel → ℕ → ℕ → ℕ → Plane
-plane_in woods m w total c1 c2 = record {
-  member1 = plane_member w.diameter woods.member1 m.member1 c1 total;
-  member2 = plane_member w.diameter woods.member2 m.member2 c2 total;
+unfoldable pub plane_in : Members → Dowel → ℕ → ℕ → ℕ → Plane
+plane_in m w total c1 c2 = record {
+  member1 = plane_member w.diameter m.member1 c1 total;
+  member2 = plane_member w.diameter m.member2 c2 total;
   diameter = w.diameter;
   steel = listed (steel_of w.steel);
   planes = m.planes;
 }
 
-abbrev pub plane_by : Woods → Members → Dowel → Loads → Plane
-plane_by woods m w l =
-    plane_in woods m w (squared_force l.fx l.fy) (force_along l m.member1) (force_along l m.member2)
-
-abbrev pub plane_of : Table → Members → Dowel → Loads → Plane
-plane_of t m w l = plane_by (woods_of t m) m w l
+abbrev pub plane_of : Members → Dowel → Loads → Plane
+plane_of m w l =
+    plane_in m w (squared_force l.fx l.fy) (force_along l m.member1) (force_along l m.member2)
 
 -- ---- Rows, share and use
 -- h, 'kmod in hundredths'
@@ -69,9 +59,9 @@ carrier_of v m = record {
       v.positions.n (reach_of v.dowel.diameter);
 }
 
-abbrev pub design_of : Table → Values → Design
-design_of t v = record {
-  plane = plane_of t v.members v.dowel v.loads;
+abbrev pub design_of : Values → Design
+design_of v = record {
+  plane = plane_of v.members v.dowel v.loads;
   diameter = v.dowel.diameter;
   squared_force = squared_force v.loads.fx v.loads.fy;
   counted = counted_planes v.positions.n v.members.planes;

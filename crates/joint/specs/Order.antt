@@ -1,8 +1,6 @@
 -- 'Order': what it means that a test of a list is the first that holds. Tests are counted from 0.
 use Rattle.std.specs.Prelude.{ℕ, ◌+◌, ◌<◌, ◌≡◌, List, ◌++◌, map, Bool, true, false, cond, get_or, eqb}
-use Rattle.tables.specs.Tests.{Test}
-use Rattle.tables.specs.Table.{Table}
-use Rattle.joint.specs.Refusal.{script_tests, designer_tests, drill_tests}
+use Rattle.joint.specs.Refusal.{Test, script_tests, designer_tests, drill_tests}
 use Rattle.spacing.specs.declared.verdict.Fault.{Fault}
 
 pub record FirstAt (tests : List Bool) (j : ℕ) : Type 0 where
@@ -16,10 +14,10 @@ pub record NoneHolds (tests : List Bool) : Type 0 where
 abbrev pub holding : List Test → List Bool
 holding tests = map (λ (t : Test). t.holds) tests
 
--- all tests of a record, read by a table; the table's own come before them
-abbrev pub tests : Table → List ℕ → List Test
-tests t s = script_tests s ++ (designer_tests t s ++ drill_tests s)
+-- all tests of a record
+abbrev pub tests : List ℕ → List Test
+tests s = script_tests s ++ (designer_tests s ++ drill_tests s)
 
--- where a refusal of a record stands in 01's order, by a table that loads: 1 to 9 by number, then 10, 11, 12 of member 1, then of member 2
+-- where a refusal stands in 01's order: 1 to 9 by number, then 10, 11, 12 of member 1, then of member 2
 abbrev pub position : Fault → ℕ
 position f = cond (eqb f.member 2) (f.number + 3) f.number

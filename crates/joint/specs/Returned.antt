@@ -1,7 +1,6 @@
 -- Nobody needs to believe this: the brackets are the claim. It says which use within its bracket is reported, and which report is made.
 use Rattle.std.specs.Prelude.{ℕ, ◌+◌, ◌*◌, ◌-◌, ◌/◌, ◌%◌, ◌≤◌, max, min, ◌≡◌, List, true, cond, eqb}
-use Rattle.codes.specs.Tables.{Sound}
-use Rattle.tables.specs.Table.{Table, is_class}
+use Rattle.codes.specs.Tables.{is_class}
 use Rattle.strength.specs.Working.{square_root_of, capacity_of}
 use Rattle.strength.specs.Shear.{PlaneWithin}
 use Rattle.spacing.specs.declared.verdict.Fault.{Fault}
@@ -21,8 +20,7 @@ use Rattle.joint.specs.declared.report.Report.{Report}
 use Rattle.joint.specs.declared.report.Verdict.TheVariants.{Refused}
 use Rattle.joint.specs.Layout.{values_of}
 use Rattle.joint.specs.Refusal.{refusal_of, drill_fault}
-use Rattle.joint.specs.declared.figures.Woods.{Woods}
-use Rattle.joint.specs.DesignOf.{force_along, woods_of, plane_by, kmod_in}
+use Rattle.joint.specs.DesignOf.{force_along, plane_of, kmod_in}
 use Rattle.joint.specs.Use.{verdict_of}
 
 -- ---- which use
@@ -86,28 +84,28 @@ taken_of m w l p = record {
 abbrev pub twice_planes : ℕ → ℕ → ℕ
 twice_planes n p = cond (eqb n 1) p (2 * (n * p))
 
-abbrev pub demand_in : Woods → Members → Dowel → Loads → ℕ → Both → Demand
-demand_in woods m w l n t = record {
+abbrev pub demand_in : Members → Dowel → Loads → ℕ → Both → Demand
+demand_in m w l n t = record {
   total = squared_force l.fx l.fy;
   member1 = t.member1;
   member2 = t.member2;
   planes2 = twice_planes n m.planes;
   kmod = kmod_in l;
-  capacity = capacity_of (plane_by woods m w l);
+  capacity = capacity_of (plane_of m w l);
 }
 
-abbrev pub demand_of : Table → Values → Demand
-demand_of t v =
-    demand_in (woods_of t v.members) v.members v.dowel v.loads v.positions.n (taken_of v.members v.dowel v.loads v.positions)
+abbrev pub demand_of : Values → Demand
+demand_of v =
+    demand_in v.members v.dowel v.loads v.positions.n (taken_of v.members v.dowel v.loads v.positions)
 
 -- the force along each member is the record's, and the plane is within the ranges of the capacity
-pub record PlaneGiven (woods : Woods) (m : Members) (w : Dowel) (l : Loads) (along1 along2 : ℕ) : Type 0 where
+pub record PlaneGiven (m : Members) (w : Dowel) (l : Loads) (along1 along2 : ℕ) : Type 0 where
   pub member1 : along1 ≡ force_along l m.member1
   pub member2 : along2 ≡ force_along l m.member2
   pub small1 : along1 ≤ 1000000
   pub small2 : along2 ≤ 1000000
   pub force : Components w.diameter l.fx l.fy
-  pub plane : PlaneWithin (plane_by woods m w l)
+  pub plane : PlaneWithin (plane_of m w l)
 
 -- ---- which report
 abbrev pub report_with : Demand → ℕ → Report
@@ -122,8 +120,8 @@ report_with d share = record {
   share = share;
 }
 
-unfoldable pub answered : Table → Values → Report
-answered t v = report_with (demand_of t v) (taken_of v.members v.dowel v.loads v.positions).share
+unfoldable pub answered : Values → Report
+answered v = report_with (demand_of v) (taken_of v.members v.dowel v.loads v.positions).share
 
 unfoldable pub unanswered : Fault → Report
 unanswered f = record {
@@ -138,20 +136,20 @@ unanswered f = record {
 }
 
 -- the report on a record
-unfoldable pub report_of : Table → List ℕ → Report
-report_of t s = cond (eqb (refusal_of t s).number 0) (answered t (values_of s)) (unanswered (refusal_of t s))
+unfoldable pub report_of : List ℕ → Report
+report_of s = cond (eqb (refusal_of s).number 0) (answered (values_of s)) (unanswered (refusal_of s))
 
 -- ---- what the values of an accepted record are known to be, when their figures are worked out
-pub record MemberHolds (t : Table) (m : Member) : Type 0 where
-  pub class : is_class t m.class ≡ true
+pub record MemberHolds (m : Member) : Type 0 where
+  pub class : is_class m.class ≡ true
   pub thickness_low : 200 ≤ m.thickness
   pub thickness_high : m.thickness ≤ 4000
 
-pub record FieldsHold (t : Table) (v : Values) : Type 0 where
+pub record FieldsHold (v : Values) : Type 0 where
   pub planes_low : 1 ≤ v.members.planes
   pub planes_high : v.members.planes ≤ 2
-  pub member1 : MemberHolds t v.members.member1
-  pub member2 : MemberHolds t v.members.member2
+  pub member1 : MemberHolds v.members.member1
+  pub member2 : MemberHolds v.members.member2
   pub diameter_low : 6 ≤ v.dowel.diameter
   pub diameter_high : v.dowel.diameter ≤ 30
   pub steel_low : 1 ≤ v.dowel.steel
@@ -163,8 +161,7 @@ pub record FieldsHold (t : Table) (v : Values) : Type 0 where
   pub duration_low : 1 ≤ v.loads.duration
   pub duration_high : v.loads.duration ≤ 5
 
-pub record Passed (t : Table) (v : Values) : Type 0 where
-  pub sound : Sound t.classes
-  pub fields : FieldsHold t v
+pub record Passed (v : Values) : Type 0 where
+  pub fields : FieldsHold v
   pub given : Given v.dowel.diameter v.loads.fx v.loads.fy v.positions.n
   pub drill : (drill_fault v).number ≡ 0

@@ -1,10 +1,9 @@
 -- What the stages of reading hand to one another, by the tests of `Refusal`: the case of the enum for each number, and the facts that a
--- later stage asks. Nobody needs to believe this: `refusal_with` is equal to `outcome_of`.
-use Rattle.std.specs.Prelude.{ℕ, zero, suc, ◌+◌, ◌*◌, ◌≤◌, ◌<◌, ◌≡◌, List, [], ◌∷◌, Bool, cond, not, ◌||◌, eqb, length, get_or, take, drop}
-use Rattle.numbers.specs.Numbers.{u8_at}
+-- later stage asks. Nobody needs to believe this: `refusal` is equal to `outcome_of`.
+use Rattle.std.specs.Prelude.{ℕ, zero, suc, ◌+◌, ◌*◌, ◌≤◌, ◌<◌, ◌≡◌, List, [], ◌∷◌, Bool, cond, not, ◌||◌, eqb, length, get_or, take, drop, ℤ}
+use Rattle.numbers.specs.Numbers.{u8_at, i32_at}
 use Rattle.joint.specs.Layout.{pair_offset, pair_length, pair_sum, kind_of_pair, pair_of_kind, part_of_kind}
-use Rattle.tables.specs.Tests.{Test, test}
-use Rattle.joint.specs.Refusal.{refusal5, refusal6}
+use Rattle.joint.specs.Refusal.{Test, test, refusal5, refusal6}
 use Rattle.joint.specs.declared.Stage.{Stage}
 use Rattle.joint.specs.declared.Stage.TheVariants.{Passed, Refused}
 use Rattle.joint.specs.declared.layout.Part.{Part}
@@ -82,3 +81,7 @@ stage (suc k) = Refused (suc k)
 unfoldable pub stage_number : Stage → ℕ
 stage_number Passed = 0
 stage_number (Refused k) = k
+
+-- every eighth byte of a part, from `at` on, starts a number
+abbrev pub eighths : List ℕ → ℕ → ℕ → ℤ
+eighths part at i = i32_at part (at + 8 * i)

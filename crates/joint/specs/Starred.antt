@@ -3,7 +3,6 @@ use Rattle.std.specs.Prelude.{ℕ, ◌≤◌, ◌≡◌, List, [], ◌∷◌, �
 use Rattle.joint.specs.declared.report.Verdict.{Verdict}
 use Rattle.joint.specs.declared.report.Verdict.TheVariants.{Fits, Overloaded, Refused}
 use Rattle.joint.specs.declared.report.Report.{Report}
-use Rattle.tables.specs.Table.{printed}
 use Rattle.joint.specs.Claim.{Judged}
 
 -- Joint B: p = 2, C24 throughout, grain x, t1 600, t2 800; member 1 x -840 to 20,000, member 2 x -20,000 to 1,440, both y -360 to
@@ -142,4 +141,4 @@ starred =
 -- every report for which the claim holds on a starred joint's bytes says what stands beside it
 abbrev pub AllHold : List Starred → Type 0
 AllHold [] = Unit {0}
-AllHold (s ∷ ss) = ((r : Report) → Judged printed s.bytes r → SaysSo s.prints r) × AllHold ss
+AllHold (s ∷ ss) = ((r : Report) → Judged s.bytes r → SaysSo s.prints r) × AllHold ss

@@ -1,7 +1,6 @@
 // The record's header, pairs, kinds and lengths: refusals 1 to 6.
 ghost use Rattle.std.specs.Prelude.{◌≡◌, ◌+◌, ◌≤◌, length, take, drop};
-ghost use Rattle.tables.specs.Tests.{first_holding};
-ghost use Rattle.joint.specs.Refusal.{positions_length, script_tests};
+ghost use Rattle.joint.specs.Refusal.{positions_length, first_holding, script_tests};
 ghost use Rattle.joint.specs.Stage.{Bounded, found, part_tests, parts_of, layout, layout_number};
 
 use crate::places::{

@@ -1,9 +1,6 @@
-// Joint records: one is read from bytes, or refused (01, 'The record' and 'Who causes which refusal'), by the printed table of classes or
-// by the table that a call names (02, A4).
+// Joint records: one is read from bytes, or refused (01, 'The record' and 'Who causes which refusal').
 ghost use Rattle.std.specs.Prelude.{◌≡◌};
-ghost use Rattle.tables.specs.Tests.{first_holding};
-ghost use Rattle.tables.specs.Table.{printed, table_of};
-ghost use Rattle.joint.specs.Refusal.{zero_values, reading_of, outcome_of};
+ghost use Rattle.joint.specs.Refusal.{first_holding, zero_values, reading_of, outcome_of};
 ghost use Rattle.joint.specs.Stage.{stage_number};
 ghost use Rattle.joint.specs.Refusal.{value_tests};
 ghost use Rattle.joint.specs.Claim.{Reported};
@@ -20,7 +17,6 @@ pub mod report;
 
 use crate::layout::{Layout, layout_number};
 use crate::report::{Report, Verdict};
-use tables::Source;
 
 // The most dowels that a record may have.
 pub const MOST_DOWELS: usize = 64;
@@ -84,7 +80,7 @@ pub struct Values {
     pub loads: Loads,
 }
 
-// A refusal 1 to 9, or of the table, and values that are all 0; or number 0 and the record's values.
+// A refusal 1 to 9, and values that are all 0; or number 0 and the record's values.
 #[derive(Drop)]
 pub struct Reading {
     pub number: u8,
@@ -117,11 +113,11 @@ fn number_of(stage: Stage) -> u8
     }
 }
 
-// The first of refusals 7 to 9 that values have by a table, or 0. The table itself is not tested: `tables::table_number` does that.
-pub fn refusal_of_values(source: Source, table: &[u8], values: Values) -> u8
-    ensures { result ≡ first_holding (value_tests (table_of source table.now) values) }
+// The first of refusals 7 to 9 that values have, or 0.
+pub fn refusal_of_values(values: Values) -> u8
+    ensures { result ≡ first_holding (value_tests values) }
 {
-    number_of(limits::check_values(source, table, values))
+    number_of(limits::check_values(values))
 }
 
 // Values that are all 0, for what was refused.
@@ -164,17 +160,10 @@ fn nothing() -> Values
     }
 }
 
-// Reads a record by a table: the table's refusal, else the first of 1 to 9 that applies, or the record's values.
-pub fn read_with(source: Source, table: &[u8], bytes: &[u8]) -> Reading
-    ensures { result ≡ reading_of (table_of source table.now) bytes.now }
+// Reads a record: the first of refusals 1 to 9 that applies, or the record's values.
+pub fn read(bytes: &[u8]) -> Reading
+    ensures { result ≡ reading_of bytes.now }
 {
-    let number = tables::table_number(source, table);
-    if number != 0 {
-        return Reading {
-            number,
-            values: nothing(),
-        };
-    }
     let layout = layout::read_layout(bytes);
     let Layout::Laid(parts) = layout else {
         return Reading {
@@ -183,7 +172,7 @@ pub fn read_with(source: Source, table: &[u8], bytes: &[u8]) -> Reading
         };
     };
     let values = parts::values_of(bytes, parts);
-    let limits = limits::check_values(source, table, values);
+    let limits = limits::check_values(values);
     let Stage::Passed = limits else {
         return Reading {
             number: number_of(limits),
@@ -193,18 +182,11 @@ pub fn read_with(source: Source, table: &[u8], bytes: &[u8]) -> Reading
     Reading { number: 0, values }
 }
 
-// Reads a record by the printed table.
-pub fn read(bytes: &[u8]) -> Reading
-    ensures { result ≡ reading_of printed bytes.now }
+// Reads a record and judges it by all twelve refusals: the first that applies, with its place, or the record's values.
+pub fn refusal(bytes: &[u8]) -> Outcome
+    ensures { result ≡ outcome_of bytes.now }
 {
-    read_with(Source::Printed, bytes, bytes)
-}
-
-// Reads a record by a table and judges it by all refusals: the first that applies, with its place, or the record's values.
-pub fn refusal_with(source: Source, table: &[u8], bytes: &[u8]) -> Outcome
-    ensures { result ≡ outcome_of (table_of source table.now) bytes.now }
-{
-    let reading = read_with(source, table, bytes);
+    let reading = read(bytes);
     let values = reading.values;
     if reading.number != 0 {
         return Outcome {
@@ -234,18 +216,11 @@ pub fn refusal_with(source: Source, table: &[u8], bytes: &[u8]) -> Outcome
     }
 }
 
-// By the printed table.
-pub fn refusal(bytes: &[u8]) -> Outcome
-    ensures { result ≡ outcome_of printed bytes.now }
+// Judges a record of any length: its refusal, or the verdict with the figures.
+pub fn judge(bytes: &[u8]) -> Report
+    ensures { Reported bytes.now result }
 {
-    refusal_with(Source::Printed, bytes, bytes)
-}
-
-// Judges a record of any length by a table of any length: the refusal, or the verdict with the figures.
-pub fn judge_with(source: Source, table: &[u8], bytes: &[u8]) -> Report
-    ensures { Reported (table_of source table.now) bytes.now result }
-{
-    let outcome = refusal_with(source, table, bytes);
+    let outcome = refusal(bytes);
     if outcome.number != 0 {
         return Report {
             verdict: Verdict::Refused,
@@ -259,12 +234,5 @@ pub fn judge_with(source: Source, table: &[u8], bytes: &[u8]) -> Report
         };
     }
     let values = outcome.values;
-    figures::answer(source, table, values)
-}
-
-// Judges a record of any length by the printed table.
-pub fn judge(bytes: &[u8]) -> Report
-    ensures { Reported printed bytes.now result }
-{
-    judge_with(Source::Printed, bytes, bytes)
+    figures::answer(values)
 }

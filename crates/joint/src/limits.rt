@@ -1,16 +1,13 @@
 // The limits of a record's values: refusals 7 to 9.
 ghost use Rattle.std.specs.Prelude.{◌≡◌, ◌≤◌};
-ghost use Rattle.tables.specs.Tests.{first_holding};
-ghost use Rattle.tables.specs.Table.{table_of};
-ghost use Rattle.joint.specs.Refusal.{between, outline_within, member_within, positions_within, loads_within, outline_empty};
+ghost use Rattle.joint.specs.Refusal.{between, member_within, coordinates, positions_within, loads_within, outline_empty, first_holding};
 ghost use Rattle.joint.specs.Stage.{stage};
 ghost use Rattle.joint.specs.Refusal.{value_tests};
 
 use crate::refusals::{EMPTY_OUTLINE, FIELD_OUTSIDE, NO_FORCE};
 use crate::{Loads, MOST_DOWELS, Member, Outline, Positions, Stage, Values};
-use codes::is_known;
+use codes::is_class;
 use numbers::{is_coordinate, is_force};
-use tables::{Source, class_of};
 
 // Codes of steel, service class and duration count from 1, the grain from 0.
 const FIRST_CODE: u8 = 1;
@@ -45,22 +42,31 @@ fn is_between(low: u8, high: u8, n: u8) -> bool
     (low <= n) & (n <= high)
 }
 
-fn outline_within(o: Outline) -> bool
-    ensures { result ≡ outline_within o }
+fn member_within(m: Member) -> bool
+    ensures { result ≡ member_within m }
 {
-    is_coordinate(o.x0) & is_coordinate(o.y0) & is_coordinate(o.x1) & is_coordinate(o.y1)
-}
-
-fn member_within(source: Source, table: &[u8], m: Member) -> bool
-    ensures { result ≡ member_within (table_of source table.now) m }
-{
-    is_known(class_of(source, table, m.class))
+    let o = m.outline;
+    is_class(m.class)
         & is_between(ALONG_X, ALONG_Y, m.grain)
         & ((LEAST_THICKNESS <= m.thickness) & (m.thickness <= MOST_THICKNESS))
-        & outline_within(m.outline)
+        & (is_coordinate(o.x0) & is_coordinate(o.y0) & is_coordinate(o.x1) & is_coordinate(o.y1))
 }
 
-// One to 64 dowels, and both numbers of each are coordinates.
+// The first n of the numbers are coordinates.
+fn are_coordinates(l: [i32; MOST_DOWELS], n: usize) -> bool
+    requires { n ≤ 64 }
+    ensures { result ≡ coordinates l n }
+{
+    let mut i = 0;
+    while i < n {
+        if !is_coordinate(l[i]) {
+            return false;
+        }
+        i += 1;
+    }
+    true
+}
+
 fn positions_within(p: Positions) -> bool
     ensures { result ≡ positions_within p }
 {
@@ -71,14 +77,9 @@ fn positions_within(p: Positions) -> bool
     if MOST_DOWELS < n {
         return false;
     }
-    let mut i = 0;
-    while i < n {
-        if !(is_coordinate(p.x[i]) & is_coordinate(p.y[i])) {
-            return false;
-        }
-        i += 1;
-    }
-    true
+    let x = p.x;
+    let y = p.y;
+    are_coordinates(x, n) & are_coordinates(y, n)
 }
 
 fn loads_within(l: Loads) -> bool
@@ -96,16 +97,16 @@ fn outline_empty(o: Outline) -> bool
     (o.x1 <= o.x0) | (o.y1 <= o.y0)
 }
 
-// Refusals 7 to 9, by a table.
-pub(crate) fn check_values(source: Source, table: &[u8], v: Values) -> Stage
-    ensures { result ≡ stage (first_holding (value_tests (table_of source table.now) v)) }
+// Refusals 7 to 9.
+pub(crate) fn check_values(v: Values) -> Stage
+    ensures { result ≡ stage (first_holding (value_tests v)) }
 {
     let members = v.members;
     let dowel = v.dowel;
     let loads = v.loads;
     let within = is_between(LEAST_PLANES, MOST_PLANES, members.planes)
-        & member_within(source, table, members.member1)
-        & member_within(source, table, members.member2)
+        & member_within(members.member1)
+        & member_within(members.member2)
         & (is_between(LEAST_DIAMETER, MOST_DIAMETER, dowel.diameter)
             & is_between(FIRST_CODE, LAST_STEEL, dowel.steel))
         & positions_within(v.positions)

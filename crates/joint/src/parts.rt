@@ -1,8 +1,8 @@
 // A record's values, part by part.
 ghost use Rattle.std.specs.Prelude.{◌≡◌, ◌+◌, ◌*◌, ◌≤◌, min, length};
 ghost use Rattle.numbers.specs.Numbers.{u8_at};
-ghost use Rattle.joint.specs.Layout.{member_at, members_in, dowel_in, positions_in, loads_in, values_of};
-ghost use Rattle.joint.specs.Stage.{LaidOut};
+ghost use Rattle.joint.specs.Layout.{member_at, members_in, dowel_in, column, positions_in, loads_in, values_of};
+ghost use Rattle.joint.specs.Stage.{LaidOut, eighths};
 
 use crate::layout::{Parts, stretch};
 use crate::places::{FIRST_X, FIRST_Y, MEMBER_1, MEMBER_2, POSITION_BYTES, VERSION_AT};
@@ -57,24 +57,30 @@ fn places(n: usize) -> usize
     if n < MOST_DOWELS { n } else { MOST_DOWELS }
 }
 
+// Every eighth byte from `at` on starts a dowel's number.
+fn column_of(part: &[u8], at: usize, n: usize) -> [i32; MOST_DOWELS]
+    requires { (at ≤ 6) × (2 + 8 * n ≤ length part.now) }
+    ensures { result ≡ column (eighths part.now at) n }
+{
+    let held = places(n);
+    let mut l = [0i32; MOST_DOWELS];
+    let mut i = 0;
+    while i < held {
+        let z = i32_at(part, at + POSITION_BYTES * i);
+        l[i] = z;
+        i += 1;
+    }
+    l
+}
+
 // Kind, N, then x and y of each dowel.
 fn positions_in(part: &[u8]) -> Positions
     requires { length part.now ≡ 2 + 8 * u8_at part.now 1 }
     ensures { result ≡ positions_in part.now }
 {
     let n = part[1] as usize;
-    let held = places(n);
-    let mut x = [0i32; MOST_DOWELS];
-    let mut y = [0i32; MOST_DOWELS];
-    let mut i = 0;
-    while i < held {
-        let at = POSITION_BYTES * i;
-        let dowel_x = i32_at(part, FIRST_X + at);
-        let dowel_y = i32_at(part, FIRST_Y + at);
-        x[i] = dowel_x;
-        y[i] = dowel_y;
-        i += 1;
-    }
+    let x = column_of(part, FIRST_X, n);
+    let y = column_of(part, FIRST_Y, n);
     Positions { n, x, y }
 }
 

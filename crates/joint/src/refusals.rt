@@ -1,4 +1,4 @@
-// The numbers of refusals 1 to 9 (01, 'Who causes which refusal'); 10 to 12 are those of crate `spacing`, 14 and 15 those of `tables`.
+// The numbers of refusals 1 to 9 (01, 'Who causes which refusal'); 10 to 12 are those of crate `spacing`.
 
 // The script that writes the record.
 pub const TOO_FEW_BYTES: u8 = 1;

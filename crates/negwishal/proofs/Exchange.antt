@@ -7,7 +7,6 @@ use mathlib.Core.Path.{◌≡◌, refl}
 use lib.Dec.{eqb}
 use lib.IntN.{ℤ}
 use lib.ListN.{length}
-use Rattle.tables.specs.Table.{Table}
 use Rattle.joint.specs.declared.Reading.{Reading}
 use Rattle.joint.specs.declared.Positions.{Positions}
 use Rattle.joint.specs.declared.Values.{Values}
@@ -51,14 +50,14 @@ module _ {p : Places} where
         answer_long = ltb-false _ _ a.1;
       }
 
-  module _ {t : Table} {bytes : List ℕ} where
-    pub read_short_lem : read_short p ≡ true → ReadOut t bytes p 1 p
+  module _ {bytes : List ℕ} where
+    pub read_short_lem : read_short p ≡ true → ReadOut bytes p 1 p
     read_short_lem h = record { code = simp h; out = simp h }
 
-    pub read_done : {r : Reading} {f x y m : List ℤ} {a : List ℕ} → read_short p ≡ false → r ≡ reading_of t bytes
+    pub read_done : {r : Reading} {f x y m : List ℤ} {a : List ℕ} → read_short p ≡ false → r ≡ reading_of bytes
         → f ≡ front (numbers_of (fields_of r.values)) p.fields → Placed r.values p.x p.y p.marks x y m
-        → a ≡ front (told r.number r.values.positions.n) p.answer → ReadOut t bytes p 0 (places f x y m a)
-    read_done h e g q w = record { code = simp h; out = simp h (simp (← e) (cc)) }
+        → a ≡ front (told r.number r.values.positions.n) p.answer → ReadOut bytes p 0 (places f x y m a)
+    read_done h e g q t = record { code = simp h; out = simp h (simp (← e) (cc)) }
 
 -- ---- writing
 pub record WriteLong (fields : List ℤ) (answer : List ℕ) : Type 0 where
@@ -71,13 +70,13 @@ module _ {fields : List ℤ} {answer : List ℕ} where
       let e = neither _ _ h in
       record { fields_long = ltb-false _ _ e.0; answer_long = ltb-false _ _ e.1 }
 
-  module _ {t : Table} {x y : List ℤ} {buffer : List ℕ} where
-    pub write_short_lem : write_short fields answer ≡ true → WroteOut t fields x y buffer answer 1 buffer answer
+  module _ {x y : List ℤ} {buffer : List ℕ} where
+    pub write_short_lem : write_short fields answer ≡ true → WroteOut fields x y buffer answer 1 buffer answer
     write_short_lem h = record { code = simp h; bytes = simp h; out = simp h }
 
     pub write_done : {f : Fields} {w : Written} {after a : List ℕ} → write_short fields answer ≡ false → f ≡ fields_in fields
-        → Wrote t f x y buffer after w → a ≡ front (written w) answer → WroteOut t fields x y buffer answer 0 after a
-    write_done h e b q = record { code = simp h; bytes = simp h (cc); out = simp h (cc) }
+        → Wrote f x y buffer after w → a ≡ front (written w) answer → WroteOut fields x y buffer answer 0 after a
+    write_done h e b t = record { code = simp h; bytes = simp h (cc); out = simp h (cc) }
 
 -- ---- how many numbers are put into each slice
 pub numbers_length : (f : Fields) → length (numbers_of f) ≡ 27
@@ -92,9 +91,9 @@ pub record Columns (p : Positions) : Type 0 where
   pub x_length : length p.x ≡ 64
   pub y_length : length p.y ≡ 64
 
-pub read_columns : (t : Table) (bytes : List ℕ) → Columns (reading_of t bytes).values.positions
+pub read_columns : (bytes : List ℕ) → Columns (reading_of bytes).values.positions
 unfolding reading_of values_of positions_in zero_values
-read_columns t bytes = go (eqb (refusal_number t bytes) 0)
+read_columns bytes = go (eqb (refusal_number bytes) 0)
   where
     go : (b : Bool) → Columns (cond b (values_of bytes) zero_values).positions
     go true = record { x_length = column_length _ _; y_length = column_length _ _ }

@@ -1,31 +1,29 @@
--- The two ways out of the entries that judge.
+-- The two ways out of the entry that judges.
 use Prim.Native.Nat.{ℕ, ◌≤◌, ◌<◌}
 use borrow.Author.Tests.{lt-ltb, le-ltb}
 use mathlib.Core.Path.{◌≡◌, ap, ◌∙◌}
 use mathlib.Core.List.{List, [], ◌∷◌}
 use lib.ListN.{length}
 use lib.Seq.{sets, sets-eq}
-use Rattle.tables.specs.Table.{Table}
 use Rattle.joint.specs.declared.report.Report.{Report}
 use Rattle.joint.specs.Claim.{Reported}
 use Rattle.joint.specs.Returned.{report_of}
 use Rattle.joint.proofs.Claims.{claim}
-use Rattle.joint.proofs.Faults.{Right}
 use Rattle.negwishal.specs.Export.{verdict_code, filled, Exported}
 
 -- a report's fields but the verdict
 abbrev pub rest : Report → List ℕ
 rest r = r.number ∷ r.member ∷ r.first ∷ r.second ∷ r.usage ∷ r.capacity ∷ r.share ∷ []
 
-module _ {t : Table} (right : Right t) {bytes entry : List ℕ} where
-  pub too_short : length entry < 8 → Exported t bytes entry 1 entry
+module _ {bytes entry : List ℕ} where
+  pub too_short : length entry < 8 → Exported bytes entry 1 entry
   too_short h =
       let e = lt-ltb (length entry) 8 h in
-      record { code = simp e; out = simp e; claim = claim t right bytes }
+      record { code = simp e; out = simp e; claim = claim bytes }
 
   -- eight stores from place 0 on
-  pub stored : {v : ℕ} {r : Report} → 8 ≤ length entry → Reported t bytes r → v ≡ verdict_code r.verdict
-      → Exported t bytes entry 0 (sets entry 0 (v ∷ rest r))
+  pub stored : {v : ℕ} {r : Report} → 8 ≤ length entry → Reported bytes r → v ≡ verdict_code r.verdict
+      → Exported bytes entry 0 (sets entry 0 (v ∷ rest r))
   stored {v} {r} h j e =
       let l = le-ltb (length entry) 8 h in
       record {
@@ -34,6 +32,6 @@ module _ {t : Table} (right : Right t) {bytes entry : List ℕ} where
             simp l
             (ap (λ (k : ℕ). sets entry 0 (k ∷ rest r)) e
             ∙ ap (λ (q : Report). sets entry 0 (filled q)) j.is
-            ∙ sets-eq (filled (report_of t bytes)) entry 0 h);
-        claim = claim t right bytes;
+            ∙ sets-eq (filled (report_of bytes)) entry 0 h);
+        claim = claim bytes;
       }

@@ -1,20 +1,17 @@
-// The entries for C: a record is judged, its values are read, and a record is written from values, each by the printed table of classes or by a
-// firm's own; and a firm's table is loaded. Each slice of numbers has an order that is fixed for good.
+// The entries for C: a record is judged, its values are read, and a record is written from values. Each slice of numbers has an order that is
+// fixed for good.
 ghost use Rattle.std.specs.Prelude.{◌≡◌, ◌≤◌, length};
 ghost use Rattle.writer.specs.Read.{fields_of};
 ghost use Rattle.lent.specs.Lent.{front};
 ghost use Rattle.lent.specs.Numbers.{numbers_of};
-ghost use Rattle.tables.specs.Table.{printed, own_table, table_of, table_number};
 ghost use Rattle.negwishal.specs.Export.{verdict_code, Exported};
 ghost use Rattle.negwishal.specs.Exchange.{places, ReadOut, WroteOut};
 ghost use Rattle.negwishal.specs.Working.{Placed};
 
 use joint::report::Verdict;
-use joint::{MOST_DOWELS, Values, judge_with, read_with};
+use joint::{MOST_DOWELS, Values, judge};
 use lent::{NUMBERS, copy, fields_in, numbers_of, tell};
-use tables::Source;
 use writer::handed::{fields_of, marks_of};
-use writer::write_with;
 
 // How many numbers a report takes.
 pub const FIELDS: usize = 8;
@@ -32,23 +29,16 @@ fn verdict_code(v: Verdict) -> u64
     }
 }
 
-// Loads a firm's own table: 0, or 14 or 15 where it is turned away.
+// Judges a record. A slice of fewer than eight numbers is left as it is and 1 comes back; else 0, and the report's fields stand in it:
+// verdict (0 refused, 1 fits, 2 overloaded), number, member, first, second, use, capacity, share.
 #[unsafe(no_mangle)]
-pub extern "C" fn negwishal_load(table: &[u8]) -> u32
-    ensures { result ≡ table_number (own_table table.now) }
-{
-    tables::load(table) as u32
-}
-
-// Judges a record by a table. A slice of fewer than eight numbers is left as it is and 1 comes back; else 0, and the report's fields stand in
-// it: verdict (0 refused, 1 fits, 2 overloaded), number, member, first, second, use, capacity, share.
-fn judge_out(source: Source, table: &[u8], bytes: &[u8], out: &mut [u64]) -> u32
-    ensures { Exported (table_of source table.now) bytes.now out.old result out.new }
+pub extern "C" fn negwishal_judge(bytes: &[u8], out: &mut [u64]) -> u32
+    ensures { Exported bytes.now out.old result out.new }
 {
     if out.len() < FIELDS {
         return 1;
     }
-    let r = judge_with(source, table, bytes);
+    let r = judge(bytes);
     let verdict = r.verdict;
     out[0] = verdict_code(verdict);
     out[1] = r.number as u64;
@@ -59,22 +49,6 @@ fn judge_out(source: Source, table: &[u8], bytes: &[u8], out: &mut [u64]) -> u32
     out[6] = r.capacity;
     out[7] = r.share;
     0
-}
-
-// Judges a record by the printed table.
-#[unsafe(no_mangle)]
-pub extern "C" fn negwishal_judge(bytes: &[u8], out: &mut [u64]) -> u32
-    ensures { Exported printed bytes.now out.old result out.new }
-{
-    judge_out(Source::Printed, bytes, bytes, out)
-}
-
-// Judges a record by a firm's own table; where that is turned away, its number is the report's.
-#[unsafe(no_mangle)]
-pub extern "C" fn negwishal_judge_with(table: &[u8], bytes: &[u8], out: &mut [u64]) -> u32
-    ensures { Exported (own_table table.now) bytes.now out.old result out.new }
-{
-    judge_out(Source::Own, table, bytes, out)
 }
 
 // Puts a record's numbers but those of its dowels into a slice.
@@ -99,14 +73,13 @@ fn hand_places(v: Values, x: &mut [i32], y: &mut [i32], marks: &mut [i32])
     copy(&ms, marks);
 }
 
-// Reads a record's values by a table. Where a slice is too short (27, 64, 64, 64, 2) all are left as they are and 1 comes back; else 0, and there
+// Reads a record's values. Where a slice is too short (27, 64, 64, 64, 2) all are left as they are and 1 comes back; else 0, and there
 // stand in `fields` version, planes, then for member 1 and for member 2 each class, grain, gx, gy, thickness, x0, y0, x1, y1, then
 // diameter, steel, plate, service class, duration, fx, fy; in `x`, `y` and `marks` a number for each of 64 dowels; in `answer` the
-// table's refusal, or 1 to 9, or 0, and the number of dowels. All but the refusal are 0 on refusal, and so is each number for which the record's
+// refusal 1 to 9 or 0, and the number of dowels. All but the refusal are 0 on refusal, and so is each number for which the record's
 // version has no field.
-fn read_out(
-    source: Source,
-    table: &[u8],
+#[unsafe(no_mangle)]
+pub extern "C" fn negwishal_read(
     bytes: &[u8],
     fields: &mut [i32],
     x: &mut [i32],
@@ -114,7 +87,7 @@ fn read_out(
     marks: &mut [i32],
     answer: &mut [u64],
 ) -> u32
-    ensures { ReadOut (table_of source table.now) bytes.now
+    ensures { ReadOut bytes.now
         (places fields.old x.old y.old marks.old answer.old) result
         (places fields.new x.new y.new marks.new answer.new) }
 {
@@ -126,7 +99,7 @@ fn read_out(
     if short {
         return 1;
     }
-    let reading = read_with(source, table, bytes);
+    let reading = joint::read(bytes);
     let values = reading.values;
     hand_fields(values, fields);
     hand_places(values, x, y, marks);
@@ -134,68 +107,9 @@ fn read_out(
     0
 }
 
-// Reads a record's values by the printed table.
-#[unsafe(no_mangle)]
-pub extern "C" fn negwishal_read(
-    bytes: &[u8],
-    fields: &mut [i32],
-    x: &mut [i32],
-    y: &mut [i32],
-    marks: &mut [i32],
-    answer: &mut [u64],
-) -> u32
-    ensures { ReadOut printed bytes.now
-        (places fields.old x.old y.old marks.old answer.old) result
-        (places fields.new x.new y.new marks.new answer.new) }
-{
-    read_out(Source::Printed, bytes, bytes, fields, x, y, marks, answer)
-}
-
-// Reads a record's values by a firm's own table; where that is turned away, its number is the answer's and all numbers read are 0.
-#[unsafe(no_mangle)]
-pub extern "C" fn negwishal_read_with(
-    table: &[u8],
-    bytes: &[u8],
-    fields: &mut [i32],
-    x: &mut [i32],
-    y: &mut [i32],
-    marks: &mut [i32],
-    answer: &mut [u64],
-) -> u32
-    ensures { ReadOut (own_table table.now) bytes.now
-        (places fields.old x.old y.old marks.old answer.old) result
-        (places fields.new x.new y.new marks.new answer.new) }
-{
-    read_out(Source::Own, table, bytes, fields, x, y, marks, answer)
-}
-
-// Writes a record by a table from its numbers, which stand in `fields`, `x` and `y` as `negwishal_read` hands them out, but that `x` and `y` have a
+// Writes a record from its numbers, which stand in `fields`, `x` and `y` as `negwishal_read` hands them out, but that `x` and `y` have a
 // number for each dowel and no more. Where `fields` or `answer` is too short (27, 2) nothing is written and 1 comes back; else 0, and
 // `answer` has the refusal or 0, and how many bytes of `buffer` are the record's.
-fn write_out(
-    source: Source,
-    table: &[u8],
-    fields: &[i32],
-    x: &[i32],
-    y: &[i32],
-    marks: &[i32],
-    buffer: &mut [u8],
-    answer: &mut [u64],
-) -> u32
-    ensures { WroteOut (table_of source table.now) fields.now x.now y.now buffer.old
-        answer.old result buffer.new answer.new }
-{
-    let short = (fields.len() < NUMBERS) | (answer.len() < ANSWERS);
-    if short {
-        return 1;
-    }
-    let handed = fields_in(fields);
-    let done = write_with(source, table, handed, x, y, marks, buffer);
-    tell(done.number, done.length, answer);
-    0
-}
-
-// Writes a record by the printed table.
 #[unsafe(no_mangle)]
 pub extern "C" fn negwishal_write(
     fields: &[i32],
@@ -205,26 +119,15 @@ pub extern "C" fn negwishal_write(
     buffer: &mut [u8],
     answer: &mut [u64],
 ) -> u32
-    ensures { WroteOut printed fields.now x.now y.now buffer.old answer.old result
+    ensures { WroteOut fields.now x.now y.now buffer.old answer.old result
         buffer.new answer.new }
 {
-    let none = [0u8; 0];
-    write_out(Source::Printed, &none, fields, x, y, marks, buffer, answer)
-}
-
-// Writes a record by a firm's own table; where that is turned away, its number is the answer's and the buffer stays.
-#[unsafe(no_mangle)]
-pub extern "C" fn negwishal_write_with(
-    table: &[u8],
-    fields: &[i32],
-    x: &[i32],
-    y: &[i32],
-    marks: &[i32],
-    buffer: &mut [u8],
-    answer: &mut [u64],
-) -> u32
-    ensures { WroteOut (own_table table.now) fields.now x.now y.now buffer.old
-        answer.old result buffer.new answer.new }
-{
-    write_out(Source::Own, table, fields, x, y, marks, buffer, answer)
+    let short = (fields.len() < NUMBERS) | (answer.len() < ANSWERS);
+    if short {
+        return 1;
+    }
+    let handed = fields_in(fields);
+    let done = writer::write(handed, x, y, marks, buffer);
+    tell(done.number, done.length, answer);
+    0
 }

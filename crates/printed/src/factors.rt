@@ -45,7 +45,7 @@ fn small(value: u64) -> u64
 // 4,000,000 times density/350 or fu/360: the square of twice the factor in thousandths.
 fn square_of_twice(f: Factor, code: u8) -> u64 {
     match f {
-        Factor::Wood => 4000000 * small(codes::wood_in(codes::class_of(code)).density) / 350,
+        Factor::Wood => 4000000 * small(codes::wood_of(code).density) / 350,
         Factor::Steel => 4000000 * small(codes::value_of(codes::steel_strength(code))) / 360,
     }
 }

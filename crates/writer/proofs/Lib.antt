@@ -5,4 +5,3 @@ pub mod Back
 pub mod Size
 pub mod Round
 mod Unsigned
-pub mod Alike

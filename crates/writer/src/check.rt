@@ -1,7 +1,7 @@
 // A firm's numbers as a record's values: whether each fits its field, and the values themselves.
 ghost use Rattle.std.specs.Prelude.{◌≡◌, true, ◌≤◌, pos, nat_abs, length};
 ghost use Rattle.numbers.specs.Numbers.{between_z};
-ghost use Rattle.writer.specs.Write.{member_from, members_from, dowel_from, loads_from, positions_from, values_from, version_unknown};
+ghost use Rattle.writer.specs.Write.{member_from, members_from, dowel_from, loads_from, placed, values_from, version_unknown};
 ghost use Rattle.writer.specs.Working.{fits_byte, fits_two_bytes, member_fits, fields_fit, MemberFit, FieldsFit};
 
 use crate::{Fields, MemberFields};
@@ -111,34 +111,33 @@ fn loads_from(f: Fields) -> Loads
     }
 }
 
-// Each list's numbers, and then 0.
-fn positions_from(x: &[i32], y: &[i32]) -> Positions
-    requires { (length x.now ≤ 64) × (length y.now ≡ length x.now) }
-    ensures { result ≡ positions_from x.now y.now }
+// A list's numbers, and then 0.
+fn placed(l: &[i32]) -> [i32; MOST_DOWELS]
+    requires { length l.now ≤ 64 }
+    ensures { result ≡ placed l.now }
 {
-    let n = x.len();
-    let mut xs = [0i32; MOST_DOWELS];
-    let mut ys = [0i32; MOST_DOWELS];
+    let mut places = [0i32; MOST_DOWELS];
     let mut i = 0;
-    while i < n {
-        let dowel_x = x[i];
-        let dowel_y = y[i];
-        xs[i] = dowel_x;
-        ys[i] = dowel_y;
+    while i < l.len() {
+        let z = l[i];
+        places[i] = z;
         i += 1;
     }
-    Positions { n, x: xs, y: ys }
+    places
 }
 
 pub(crate) fn values_from(f: Fields, x: &[i32], y: &[i32]) -> Values
-    requires { FieldsFit f × (length x.now ≤ 64) × (length y.now ≡ length x.now) }
+    requires { FieldsFit f × (length x.now ≤ 64) × (length y.now ≤ 64) }
     ensures { result ≡ values_from f x.now y.now }
 {
+    let n = x.len();
+    let xs = placed(x);
+    let ys = placed(y);
     Values {
         version: two_bytes_of(f.version),
         members: members_from(f),
         dowel: dowel_from(f),
-        positions: positions_from(x, y),
+        positions: Positions { n, x: xs, y: ys },
         loads: loads_from(f),
     }
 }

@@ -1,6 +1,5 @@
-// Writes a joint record from its values (02, A2), by the printed table of classes or by the table that a call names (A4), and hands a record's values on as the numbers that the writer takes.
+// Writes a joint record from its values (02, A2), and hands a record's values on as the numbers that the writer takes.
 ghost use Rattle.std.specs.Prelude.{◌≡◌};
-ghost use Rattle.tables.specs.Table.{printed, table_of};
 ghost use Rattle.writer.specs.Write.{Wrote};
 
 mod check;
@@ -10,9 +9,8 @@ use joint::places::POSITION_BYTES;
 use joint::refusals::{FIELD_OUTSIDE, OTHER_VERSION};
 use joint::{MOST_DOWELS, refusal_of_values};
 use put::put_record;
-use tables::Source;
 
-// The writer's own refusal; the others are those of a record's values, or the table's.
+// The writer's own refusal; the others are those of a record's values.
 pub const BUFFER_TOO_SHORT: u8 = 13;
 
 // Bytes of a record without dowels.
@@ -63,22 +61,10 @@ fn refused(number: u8) -> Written
 
 // Writes the record of a firm's numbers, in the version that they name, into the buffer's first bytes and reports how many. The tests of a
 // record's values come first, and then whether the buffer is long enough; on refusal the buffer stays as it is and the length is 0.
-// Version 1 has no marks, and they are not looked at. A table that is turned away refuses the values before any test of their own.
-pub fn write_with(
-    source: Source,
-    table: &[u8],
-    f: Fields,
-    x: &[i32],
-    y: &[i32],
-    marks: &[i32],
-    buffer: &mut [u8],
-) -> Written
-    ensures { Wrote (table_of source table.now) f x.now y.now buffer.old buffer.new result }
+// Version 1 has no marks, and they are not looked at.
+pub fn write(f: Fields, x: &[i32], y: &[i32], marks: &[i32], buffer: &mut [u8]) -> Written
+    ensures { Wrote f x.now y.now buffer.old buffer.new result }
 {
-    let turned_away = tables::table_number(source, table);
-    if turned_away != 0 {
-        return refused(turned_away);
-    }
     if check::version_unknown(f) {
         return refused(OTHER_VERSION);
     }
@@ -88,7 +74,7 @@ pub fn write_with(
     }
     let length = RECORD_BYTES + POSITION_BYTES * n;
     let values = check::values_from(f, x, y);
-    let number = refusal_of_values(source, table, values);
+    let number = refusal_of_values(values);
     if number != 0 {
         return refused(number);
     }
@@ -97,12 +83,4 @@ pub fn write_with(
     }
     put_record(buffer, values);
     Written { number: 0, length }
-}
-
-// Writes the record by the printed table.
-pub fn write(f: Fields, x: &[i32], y: &[i32], marks: &[i32], buffer: &mut [u8]) -> Written
-    ensures { Wrote printed f x.now y.now buffer.old buffer.new result }
-{
-    let none = [0u8; 0];
-    write_with(Source::Printed, &none, f, x, y, marks, buffer)
 }

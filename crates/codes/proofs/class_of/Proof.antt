@@ -4,13 +4,13 @@ use mathlib.Core.Path.{◌≡◌, refl, ap, sym, ◌∙◌}
 use borrow.Author.Tests.{ne_eqb}
 use Rattle.codes.specs.declared.Class.{Class}
 use Rattle.codes.specs.declared.Class.TheVariants.{Unknown}
-use Rattle.codes.specs.Tables.{softwood, hardwood, printed_classes, class_in}
+use Rattle.codes.specs.Tables.{softwood, hardwood, printed_classes, class_of}
 use Rattle.codes.proofs.class_of.Statement.{statement}
 use Rattle.codes.proofs.class_of.Tie as tie
 
 -- the answer is the entry of the table's line k
-at_line : (k : ℕ) (entry : Class) → entry ≡ class_in printed_classes k → {code : ℕ} {r : Class} → code ≡ k → r ≡ entry → r ≡ class_in printed_classes code
-at_line k entry line key answer = answer ∙ line ∙ ap (class_in printed_classes) (sym key)
+at_line : (k : ℕ) (entry : Class) → entry ≡ class_of k → {code : ℕ} {r : Class} → code ≡ k → r ≡ entry → r ≡ class_of code
+at_line k entry line key answer = answer ∙ line ∙ ap class_of (sym key)
 
 -- a code of no line
 no_line :
@@ -26,8 +26,8 @@ no_line :
     → (n ≡ 9 → ⊥)
     → (n ≡ 10 → ⊥)
     → (n ≡ 11 → ⊥)
-    → Unknown ≡ class_in printed_classes n
-unfolding class_in printed_classes
+    → Unknown ≡ class_of n
+unfolding class_of printed_classes
 no_line n h1 h2 h3 h4 h5 h6 h7 h8 h9 h10 h11 =
     simp (
       ne_eqb n 1 h1,
@@ -44,7 +44,7 @@ no_line n h1 h2 h3 h4 h5 h6 h7 h8 h9 h10 h11 =
     )
 
 pub class-of-spec : {M : Type 1} → statement M
-unfolding class_in printed_classes
+unfolding class_of printed_classes
 class-of-spec =
     tie.close
     (tie.spec
@@ -70,7 +70,7 @@ class-of-spec =
     (λ c. at_line 9 (hardwood 530) refl c.before.match.keys9 c.hardwood.ensures)
     (λ c. at_line 10 (hardwood 550) refl c.before.match.keys10 c.hardwood2.ensures)
     (λ c. at_line 11 (hardwood 900) refl c.before.match.keys11 c.hardwood3.ensures)
-    (λ c. ap (class_in printed_classes) (sym c.match.keys12))
+    (λ c. ap class_of (sym c.match.keys12))
     (λ c. no_line _
     c.match.rest.0.0.0.0.0.0.0.0.0.0.0.1
     c.match.rest.0.0.0.0.0.0.0.0.0.0.1

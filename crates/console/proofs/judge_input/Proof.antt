@@ -3,7 +3,6 @@ use borrow.Author.Rules.{rules}
 use mathlib.Core.Path.{◌∙◌, ap, sym}
 use lib.Seq.{take_all, length-take-le}
 use native.Mathlib.Nat.{le_of_lt}
-use Rattle.tables.specs.Table.{printed}
 use Rattle.joint.specs.Returned.{report_of}
 use Rattle.console.proofs.Inputs.{both, input_long, input_judged}
 use Rattle.console.proofs.judge_input.Statement.{statement}
@@ -38,7 +37,7 @@ judge-requires-2 c κs = search rules
 returns-3 : tie.Need-returns-3
 returns-3 c =
     let a = c.before.before.before.before.args in
-    let e = ap (report_of printed) (sym (take_all a.count a.buffer.now c.before.if2.false)) in
+    let e = ap report_of (sym (take_all a.count a.buffer.now c.before.if2.false)) in
     both a.buffer.now a.count a.more c.judge2.result
     (input_judged a.buffer.now a.count a.more c.judge2.result c.before.before.if1.false (c.judge2.ensures.is ∙ e))
 

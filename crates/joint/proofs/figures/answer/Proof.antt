@@ -3,24 +3,15 @@ use borrow.Author.Rules.{rules}
 use native.Mathlib.Omega.{arith}
 use mathlib.Core.Path.{◌≡◌, ◌∙◌, ap, ap₂, subst⁻¹}
 use Rattle.group.specs.declared.member.Both.{Both}
-use Rattle.strength.specs.Shear.{PlaneWithin}
-use Rattle.tables.specs.Table.{table_of}
-use Rattle.joint.specs.declared.figures.Woods.{Woods}
-use Rattle.joint.specs.DesignOf.{woods_of, plane_by}
 use Rattle.joint.specs.Returned.{demand_in, demand_of, report_with, answered, DemandWithin}
 use Rattle.joint.proofs.Answers.{plane, within}
 use Rattle.joint.proofs.figures.answer.Statement.{statement}
 use Rattle.joint.proofs.figures.answer.Tie as tie
 
-woods_are : (c : tie.After-taken-of) →
-    let a = c.before.before.before.before.before.before.before.args in
-    c.before.woods-of.result ≡ woods_of (table_of a.source a.table.now) a.v.members
-woods_are c = c.before.woods-of.ensures
-
 demand-of-requires : tie.Need-demand-of-requires
 demand-of-requires c κs =
     let k : tie.Start = search in
-    let w = within _ k.args.v k.pre in
+    let w = within k.args.v k.pre in
     let first = ap (λ (r : Both). r.member1.along) c.Taken-of.ensures in
     let second = ap (λ (r : Both). r.member2.along) c.Taken-of.ensures in (
       record {
@@ -29,25 +20,22 @@ demand-of-requires c κs =
         small1 = omega (arith, w.row1.along_high);
         small2 = omega (arith, w.row2.along_high);
         force = k.pre.given.force;
-        plane = subst⁻¹ (λ (w : Woods). PlaneWithin (plane_by w k.args.v.members k.args.v.dowel k.args.v.loads)) (woods_are c)
-            (plane _ k.args.v k.pre);
+        plane = plane k.args.v k.pre;
       },
       k.pre.given.most,
     )
 
 demand_is : (c : tie.After-demand-of) →
-    let a = c.before.before.before.before.before.before.before.before.args in
-    c.demand-of.result ≡ demand_of (table_of a.source a.table.now) a.v
+    c.demand-of.result ≡ demand_of c.before.before.before.before.before.before.args.v
 demand_is c =
     let t : tie.After-taken-of = search in
     let k : tie.Start = search in
     let v = k.args.v in
-    c.demand-of.ensures
-    ∙ ap₂ (λ (w : Woods) (b : Both). demand_in w v.members v.dowel v.loads v.positions.n b) (woods_are t) t.Taken-of.ensures
+    c.demand-of.ensures ∙ ap (demand_in v.members v.dowel v.loads v.positions.n) t.Taken-of.ensures
 
 report-of-requires : tie.Need-report-of-requires
 report-of-requires c κs =
-    let k : tie.Start = search in subst⁻¹ DemandWithin (demand_is c) (within _ k.args.v k.pre)
+    let k : tie.Start = search in subst⁻¹ DemandWithin (demand_is c) (within k.args.v k.pre)
 
 returns : tie.Need-returns
 unfolding answered
@@ -57,4 +45,4 @@ returns c =
     c.report-of.ensures ∙ ap₂ report_with (demand_is d) (ap (λ (b : Both). b.share) t.Taken-of.ensures)
 
 pub answer-spec : {M : Type 1} → statement M
-answer-spec = tie.close (tie.spec (λ c κs. search rules) (λ c κs. search rules) demand-of-requires report-of-requires returns)
+answer-spec = tie.close (tie.spec (λ c κs. search rules) demand-of-requires report-of-requires returns)

@@ -12,7 +12,7 @@ use Rattle.joint.proofs.figures.capacity_of.Tie as tie
 plane_is :
     (c : tie.After-value-of) →
     let member1 = c.before.before.before in
-    let v = member1.before.before.before.before.before.args in
+    let v = member1.before.before.before.args in
     ◌≡◌ {A = Plane}
     (record {
       member1 = member1.plane-member.result;
@@ -21,11 +21,11 @@ plane_is :
       steel = c.value_of_lem.result;
       planes = v.members.planes;
     })
-    (plane_in v.woods v.members v.dowel v.total v.along1 v.along2)
+    (plane_in v.members v.dowel v.total v.along1 v.along2)
 unfolding plane_in
 plane_is c =
     let member1 = c.before.before.before in
-    let v = member1.before.before.before.before.before.args in
+    let v = member1.before.before.before.args in
     λ i. record {
       member1 = member1.plane-member.ensures i;
       member2 = c.before.before.plane-member2.ensures i;

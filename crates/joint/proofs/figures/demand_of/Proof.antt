@@ -6,7 +6,7 @@ use Rattle.spacing.proofs.Integers.{small_read}
 use Rattle.strength.specs.Shear.{PlaneWithin}
 use Rattle.strength.specs.Working.{capacity_of}
 use Rattle.codes.specs.Tables.{listed}
-use Rattle.joint.specs.DesignOf.{plane_in, plane_by}
+use Rattle.joint.specs.DesignOf.{plane_in, plane_of}
 use Rattle.joint.proofs.figures.demand_of.Statement.{statement}
 use Rattle.joint.proofs.figures.demand_of.Tie as tie
 
@@ -23,12 +23,12 @@ total_is c =
 plane_is :
     (c : tie.After-squared-force) →
     let v = c.before.before.before.before.before.args in
-    plane_in v.woods v.members v.dowel c.squared-force.result v.taken.member1.along v.taken.member2.along
-    ≡ plane_by v.woods v.members v.dowel v.loads
+    plane_in v.members v.dowel c.squared-force.result v.taken.member1.along v.taken.member2.along
+    ≡ plane_of v.members v.dowel v.loads
 plane_is c =
     let k : tie.Start = search in
     let v = k.args in
-    λ i. plane_in v.woods v.members v.dowel (total_is c i) (k.pre.0.member1 i) (k.pre.0.member2 i)
+    λ i. plane_in v.members v.dowel (total_is c i) (k.pre.0.member1 i) (k.pre.0.member2 i)
 
 capacity-of-requires : tie.Need-capacity-of-requires
 capacity-of-requires c κs =

@@ -10,9 +10,10 @@ mul-t8 c = let k : tie.Start = search in omega (arith, mul-le-mul k.pre k.pre)
 returns : tie.Need-returns
 returns c =
     let k : tie.After-k90 = search in
-    simp k.k90.ensures
+    let w : tie.After-wood-of = search in
+    simp (k.k90.ensures, w.wood-of.ensures)
 
 pub plane-member-spec : {M : Type 1} → statement M
 plane-member-spec =
     tie.close
-    (tie.spec (λ c κs. tt) mul-t8 (λ c. search rules) returns)
+    (tie.spec (λ c κs. tt) (λ c κs. tt) mul-t8 (λ c. search rules) returns)

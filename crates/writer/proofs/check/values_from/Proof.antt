@@ -19,14 +19,17 @@ values-from-spec =
     (λ c κs. search rules)
     (λ c κs. search rules)
     (λ c κs. search rules)
+    (λ c κs. search rules)
     (λ c.
-    let p : tie.After-positions-from = search in
+    let x : tie.After-placed = search in
+    let y : tie.After-placed2 = search in
     let v : tie.After-two-bytes-of = search in
     let m : tie.After-members-from = search in
     let d : tie.After-dowel-from = search in
     let b : tie.Start = search in
     simp (
-      p.positions-from.ensures,
+      x.placed.ensures,
+      y.placed2.ensures,
       v.two-bytes-of.ensures,
       m.members-from.ensures,
       d.dowel-from.ensures,

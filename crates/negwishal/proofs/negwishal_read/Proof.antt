@@ -2,14 +2,14 @@
 use borrow.Author.Rules.{rules}
 use Rattle.negwishal.specs.Exchange.{Places, places}
 use Rattle.negwishal.proofs.Exchange.{ReadLong, read_short_lem, read_long, read_done}
-use Rattle.negwishal.proofs.read_out.Statement.{statement}
-use Rattle.negwishal.proofs.read_out.Tie as tie
+use Rattle.negwishal.proofs.negwishal_read.Statement.{statement}
+use Rattle.negwishal.proofs.negwishal_read.Tie as tie
 
 -- the slices as they were lent
 abbrev lent : tie.Start → Places
 lent s = let a = s.args in places a.fields.now a.x.now a.y.now a.marks.now a.answer.now
 
-long : (c : tie.Else1) → ReadLong (lent c.before.before.before.before)
+long : (c : tie.Else1) → ReadLong (lent c.before.before.before)
 long c = read_long c.if1.false
 
 returns : tie.Need-returns
@@ -32,10 +32,10 @@ returns-2 c =
     let p = t.before.before.before.before.before in
     let h = p.before.before.before.before.before in
     let r = h.before.before.before in
-    read_done r.before.if1.false r.read-with.ensures h.hand-fields.ensures p.hand-places.ensures t.tell.ensures
+    read_done r.before.if1.false r.read.ensures h.hand-fields.ensures p.hand-places.ensures t.tell.ensures
 
-pub read-out-spec : {M : Type 1} → statement M
-read-out-spec =
+pub negwishal-read-spec : {M : Type 1} → statement M
+negwishal-read-spec =
     tie.close
     (tie.spec
     returns

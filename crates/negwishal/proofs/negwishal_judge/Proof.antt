@@ -2,16 +2,15 @@
 use native.Mathlib.Omega.{arith}
 use borrow.Author.Rules.{rules}
 use lib.ListN.{length-set}
-use Rattle.joint.proofs.Faults.{right}
 use Rattle.negwishal.proofs.Laws.{too_short, stored}
-use Rattle.negwishal.proofs.judge_out.Statement.{statement}
-use Rattle.negwishal.proofs.judge_out.Tie as tie
+use Rattle.negwishal.proofs.negwishal_judge.Statement.{statement}
+use Rattle.negwishal.proofs.negwishal_judge.Tie as tie
 
 returns : tie.Need-returns
-returns c = let k : tie.Start = search in too_short (right k.args.source k.args.table.now) (omega arith)
+returns c = too_short (omega arith)
 
-judge-with-requires : tie.Need-judge-with-requires
-judge-with-requires c κs = search rules
+judge-requires : tie.Need-judge-requires
+judge-requires c κs = search rules
 
 verdict-code-requires : tie.Need-verdict-code-requires
 verdict-code-requires c κs = search rules
@@ -58,15 +57,14 @@ same_length c = simp length-set
 returns-2 : tie.Need-returns-2
 returns-2 c =
     let b = c.before.before.before.before.before in
-    let k : tie.Start = search in
-    stored (right k.args.source k.args.table.now) (omega arith) b.judge-with.ensures c.before.before.before.before.verdict-code.ensures
+    stored (omega arith) b.judge.ensures c.before.before.before.before.verdict-code.ensures
 
-pub judge-out-spec : {M : Type 1} → statement M
-judge-out-spec =
+pub negwishal-judge-spec : {M : Type 1} → statement M
+negwishal-judge-spec =
     tie.close
     (tie.spec
     returns
-    judge-with-requires
+    judge-requires
     verdict-code-requires
     slice-write-out
     cast-out
