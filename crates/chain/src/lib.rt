@@ -1,4 +1,6 @@
 // Pairs of offset and length that lay parts end to end: the record's (01, 'The record') and those of 02, A4, A6 and A14.
+#![tactic(auto)]
+
 ghost use Rattle.std.specs.Prelude.{◌≡◌, ◌+◌, ◌*◌, ◌≤◌, ◌<◌, length};
 ghost use Rattle.chain.specs.Chain.{bytes_of, pair_bytes, number_at, continues, Read};
 

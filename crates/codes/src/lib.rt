@@ -1,5 +1,7 @@
 // What a code of the record stands for: the wood of a class, the strength of a steel, kmod; k90 of a kind of wood; which versions are
 // known.
+#![tactic(auto)]
+
 ghost use Rattle.std.specs.Prelude.{◌≡◌};
 ghost use Rattle.codes.specs.Tables.{
   is_version,

@@ -1,4 +1,6 @@
 // One joint record from a file descriptor, answered by one line on standard output (01, 'Printing').
+#![tactic(auto)]
+
 ghost use Rattle.std.specs.Prelude.{◌≡◌, ◌≤◌, length};
 ghost use Rattle.spacing.specs.Verdict.{fault};
 ghost use Rattle.joint.specs.Returned.{unanswered};

@@ -1,4 +1,6 @@
 // Reads one joint record from standard input and writes its answer as one line. Run here on joint B of 01.
+#![tactic(auto)]
+
 use libc::{STDERR_FILENO, STDIN_FILENO};
 
 fn main() {

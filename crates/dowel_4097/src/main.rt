@@ -1,4 +1,6 @@
 // The program `dowel`, run on 4,097 bytes, which are too many.
+#![tactic(auto)]
+
 use libc::STDIN_FILENO;
 
 fn main() {

@@ -1,4 +1,6 @@
 // Joint records: one is read from bytes, or refused (01, 'The record' and 'Who causes which refusal').
+#![tactic(auto)]
+
 ghost use Rattle.std.specs.Prelude.{◌≡◌};
 ghost use Rattle.joint.specs.Refusal.{first_holding, zero_values, reading_of, outcome_of};
 ghost use Rattle.joint.specs.Stage.{stage_number};

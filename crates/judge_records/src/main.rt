@@ -1,4 +1,6 @@
 // Judges the record files that its arguments name, and writes the program's line of each.
+#![tactic(auto)]
+
 use libc::STDOUT_FILENO;
 use line::put;
 

@@ -1,4 +1,6 @@
 // What the entries for C leave in lent slices: the order of a record's 27 numbers, numbers at a slice's front, an answer.
+#![tactic(auto)]
+
 ghost use Rattle.std.specs.Prelude.{◌≡◌, ◌+◌, ◌≤◌, length};
 ghost use Rattle.lent.specs.Lent.{told, front};
 ghost use Rattle.lent.specs.Numbers.{member_in, fields_in, numbers_of};

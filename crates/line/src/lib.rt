@@ -1,4 +1,6 @@
 // The line that the program writes, made from a report (01, 'Printing').
+#![tactic(auto)]
+
 ghost use Rattle.std.specs.Prelude.{◌+◌, ◌≤◌, ◌≡◌, ◌++◌, length};
 ghost use Rattle.line.specs.Line.{field_of, figures_after, place_after, Added, Lined};
 

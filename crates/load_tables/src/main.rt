@@ -1,4 +1,6 @@
 // Loads the table files that its arguments name, and writes of each 0, or 14 or 15 where it is turned away.
+#![tactic(auto)]
+
 use libc::STDOUT_FILENO;
 
 // Longer than any table that it is run on.

@@ -1,5 +1,7 @@
 // The entries for C: a record is judged, its values are read, and a record is written from values. Each slice of numbers has an order that is
 // fixed for good.
+#![tactic(auto)]
+
 ghost use Rattle.std.specs.Prelude.{◌≡◌, ◌≤◌, length};
 ghost use Rattle.writer.specs.Read.{fields_of};
 ghost use Rattle.lent.specs.Lent.{front};

@@ -1,4 +1,6 @@
 // Numbers of a record: at their byte, and within their limits.
+#![tactic(auto)]
+
 ghost use Rattle.std.specs.Prelude.{◌≡◌, ◌+◌, ◌≤◌, length};
 ghost use Rattle.std.proofs.lemmas.List.Edits.{sets};
 ghost use Rattle.numbers.specs.Numbers.{u16_at, u32_at, twos_complement, i32_at, u16_bytes, u32_bytes, complement_of, i32_bytes, between_z, coordinate, force};

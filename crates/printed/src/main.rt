@@ -1,5 +1,7 @@
 // Compares 001's Tables 13-5, 13-6 and 13-7, its factors k1 and k2 and its Example 13-1 with what `strength` works out, and writes how
 // many printed values were compared and how many differ.
+#![tactic(auto)]
+
 mod cells;
 mod factors;
 mod tables;

@@ -1,4 +1,6 @@
 // Reads the record files that its arguments name, and writes of each the refusal with its place, or `accepted`.
+#![tactic(auto)]
+
 use libc::STDOUT_FILENO;
 
 // Longer than any record that it is run on.

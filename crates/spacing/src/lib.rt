@@ -1,4 +1,6 @@
 // Spacing of dowels (000, Table 8), exact (01, 'Spacing').
+#![tactic(auto)]
+
 pub mod force;
 mod limit;
 mod scan;

@@ -2,6 +2,8 @@
 // A number is a sign and seven digits with one space or line end after it: nine bytes. A joint is d fx fy, then grain x0 y0 x1
 // y1 of member 1 and of member 2, then the number of dowels, and x y of each. Then the shares of the rows of 001's
 // Table 13-2, as 001 prints them.
+#![tactic(auto)]
+
 ghost use Rattle.std.specs.Prelude.{◌+◌, ◌*◌, ◌≤◌};
 ghost use Rattle.spacing.specs.Spacing.{Given};
 

@@ -1,4 +1,6 @@
 // Bearing and roots: the strength of a shear plane (01, 'Strength of a shear plane').
+#![tactic(auto)]
+
 pub mod capacity;
 pub mod moment;
 pub mod plane;

@@ -1,4 +1,6 @@
 // Runs the strength of shear planes whose figures are known: joint B of 01, Example 13-1 of 001, and planes worked out by hand.
+#![tactic(auto)]
+
 use libc::STDOUT_FILENO;
 use strength::plane::{Plane, Timber};
 

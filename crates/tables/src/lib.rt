@@ -1,5 +1,7 @@
 // The table by which a record's classes are read: the printed one, or a firm's own, which is lent as bytes (02, A4). A firm's table is
 // loaded, or turned away by 14 or 15, and asked for a code.
+#![tactic(auto)]
+
 ghost use Rattle.std.specs.Prelude.{◌≡◌, not, ◌+◌, ◌≤◌, length};
 ghost use Rattle.codes.specs.Tables.{class_in};
 ghost use Rattle.tables.specs.Table.{entries_of, entry_at, entry_within, rise, refusal14, class_of, own_table, table_of, table_number};

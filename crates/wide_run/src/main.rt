@@ -1,5 +1,7 @@
 // Runs every public operation of `wide` on the cases of standard input and writes what it got, ten lines for each case. Where an
 // operation asks something of its operands, it is run only where a test shows that, and the line ends in '-' elsewhere.
+#![tactic(auto)]
+
 ghost use Rattle.std.specs.Prelude.{◌≡◌, ◌+◌, ◌<◌, ◌≤◌, length};
 ghost use Rattle.wide.specs.Natural.{value};
 

@@ -1,6 +1,8 @@
 // Runs the entries for C that write and read values. Each argument names a file. One that starts with `case` holds numbers for the writer,
 // and the line says what came back, the answer, and every byte of the buffer; any other is a record, which is read and, where it passes,
 // written again into a buffer as long as itself. (What reading leaves in each slice is tested in tests/header.)
+#![tactic(auto)]
+
 ghost use Rattle.std.specs.Prelude.{◌≤◌};
 
 use libc::STDOUT_FILENO;

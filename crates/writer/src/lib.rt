@@ -1,4 +1,6 @@
 // Writes a joint record from its values (02, A2), and hands a record's values on as the numbers that the writer takes.
+#![tactic(auto)]
+
 ghost use Rattle.std.specs.Prelude.{◌≡◌};
 ghost use Rattle.writer.specs.Write.{Wrote};
 
