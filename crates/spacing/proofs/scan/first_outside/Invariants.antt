@@ -13,8 +13,8 @@ use Rattle.spacing.proofs.scan.first_outside.Given as goal
 
 abbrev pub invariant-loop-i : goal.invariant-loop-i
 invariant-loop-i l =     (l.i ≤ l.count)
-    × (first_from (outside (to_z w32 l.low) (to_z w32 l.high) l.under l.over l.v) 0 l.count
-    ≡ first_from (outside (to_z w32 l.low) (to_z w32 l.high) l.under l.over l.v) l.i (l.count - l.i))
+    × (first_from (outside l.low l.high l.under l.over l.v) 0 l.count
+    ≡ first_from (outside l.low l.high l.under l.over l.v) l.i (l.count - l.i))
 
 abbrev pub decreases-loop-i : goal.decreases-loop-i
 decreases-loop-i l = l.count - l.i
