@@ -1,4 +1,3 @@
--- The loop's invariant: the row kept passes the shares that the windows passed all pass.
 use borrow.Author.Rules.{rules}
 use mathlib.Core.Path.{◌≡◌, sym, ap, ◌∙◌}
 use mathlib.Core.Bool.{Bool, true, not, and-eq-true_iff}
@@ -19,25 +18,8 @@ use Rattle.group.specs.Share.{in_window, all_to, row_passes, RowHolds, Decides, 
 use Rattle.group.proofs.Counting.{count_bound}
 use Rattle.group.proofs.SeenLaws.{seen_count, seen_least_bound}
 use Rattle.group.proofs.Shares.{far_passes, all_on, all_again}
-use Rattle.group.proofs.share.worst_window.Statement.{statement}
-use Rattle.group.proofs.share.worst_window.Tie as tie
-
-abbrev invariant_loop : tie.invariant_loop
-invariant_loop a b starts count reach worst₀ i₀ worst i = (i ≤ count) × WorstOf reach a b count starts i worst
-
-abbrev decreases_loop : tie.decreases_loop
-decreases_loop a b starts count reach worst₀ i₀ worst i = count - i
-
-loop-holds : tie.Need-loop-init invariant_loop decreases_loop
-unfolding all_to
-loop-holds c = (
-  omega arith,
-  record {
-    some = lit≤ tt;
-    within = record { most = lit≤ tt; far = lit≤ tt };
-    passes = λ d e thick h. far_passes d 1 e thick (lit≤ tt) h;
-  },
-)
+use Rattle.group.proofs.share.worst_window.Goals as goal
+use Rattle.group.proofs.share.worst_window.Goals.{then-not-same_start, else-not-same_start}
 
 -- what a pass makes of a window
 seen_holds : (a b : List ℤ) (count reach : ℕ) (from : ℤ) → count ≤ 64 → RowHolds (window_seen a b count reach from)
@@ -47,14 +29,6 @@ seen_holds a b count reach from most =
       most = omega (arith, seen_count test a count, count_bound test count);
       far = seen_least_bound test a count;
     }
-
-deciding-requires : tie.Need-deciding-requires invariant_loop decreases_loop
-deciding-requires c κs =
-    let l : tie.At-loop invariant_loop decreases_loop = search in
-    let k = l.before.args in
-    let w = l.loop.inv.1 in
-    let from = to_z w32 (of_z w32 (place k.starts.now l.loop.i)) in
-    (w.some, w.within, rw c.window-from.ensures (seen_holds k.a.now k.b.now k.count k.reach from l.before.pre))
 
 -- a window that starts where the one before it did
 same_start_place : (starts : List ℤ) (i : ℕ) → same_start starts i ≡ true → (0 < i) × (place starts i ≡ place starts (i - 1))
@@ -86,34 +60,37 @@ module _ (reach : ℕ) (a b : List ℤ) (count : ℕ) (starts : List ℤ) (i : �
             ∙ sym (all_again _ i (i - 1) (omega (arith, p.0)) (ap (passes_at d k) p.1));
       }
 
-loop-again : tie.Need-loop-preserved invariant_loop decreases_loop
-loop-again c =
-    let l : tie.At-loop invariant_loop decreases_loop = search in
-    let k = l.before.args in
-    let i = l.loop.i in
-    let w = l.loop.inv.1 in (
+pub loop-i-init : goal.loop-i-init
+unfolding all_to 
+loop-i-init c = (
+  omega arith,
+  record {
+    some = lit≤ tt;
+    within = record { most = lit≤ tt; far = lit≤ tt };
+    passes = λ d e thick h. far_passes d 1 e thick (lit≤ tt) h;
+  },
+)
+
+pub deciding-worst-requires : goal.deciding-worst-requires
+deciding-worst-requires c =     let k = c.args in
+    let w = c.loop-i.invariant.1 in
+    let from = to_z w32 (of_z w32 (place k.starts.now c.loop-i.i)) in
+    (w.some, w.within, rw c.window_from.ensures (seen_holds k.a.now k.b.now k.count k.reach from c.requires))
+
+pub loop-i-preserved : goal.loop-i-preserved
+loop-i-preserved c =     let k = c.args in
+    let i = c.loop-i.i in
+    let w = c.loop-i.invariant.1 in (
       omega arith,
-      ⊎_elim
-          (λ s.
+      elim c.if-not-same_start.branch [
+        then-not-same_start s ↦
           let start : SFits w32 (place k.starts.now i) = search rules in
-          rw s.4
-          (one_more k.reach k.a.now k.b.now k.count k.starts.now i l.loop.worst w _
-          (rw (s.2.ensures, to_z-of_z start) at s.3.ensures)))
-          (λ s.
-          rw s.1
-          (once_more k.reach k.a.now k.b.now k.count k.starts.now i l.loop.worst w
-          (sym c.before.same_start.ensures ∙ not-false _ s.0.left)))
-          c.if1.branch,
+          rw s.worst-is
+          (one_more k.reach k.a.now k.b.now k.count k.starts.now i c.loop-i.worst w _
+          (rw (s.window_from.ensures, to_z-of_z start) at s.deciding-worst.ensures))
+      | else-not-same_start s ↦
+          rw s.worst-is
+          (once_more k.reach k.a.now k.b.now k.count k.starts.now i c.loop-i.worst w
+          (sym c.same_start.ensures ∙ s.if-not-same_start.false))
+      ],
     )
-
-returns : tie.Need-returns invariant_loop decreases_loop
-returns c =
-    let l = c.before.loop in
-    let e : l.i ≡ c.before.before.args.count = omega arith in
-    rw e at l.invariant.1
-
-pub worst-window-spec : {M : Type 1} → statement M
-worst-window-spec =
-    tie.close
-    (tie.spec invariant_loop decreases_loop loop-holds (λ c κs. search rules) (λ c. search rules) (λ c. search rules) (λ c κs. search rules)
-    deciding-requires (λ c. search rules) (λ c. omega arith) loop-again returns)
