@@ -16,6 +16,9 @@ pub add_to-requires-2 : goal.add_to-requires-2
 add_to-requires-2 c =
     let k = c.multiply_add.auto.sum in
     let k2 = c.add_to.auto.sum in
-    omega
-    (arith, room_both c.add_to.new.sum c.args.a.now c.args.b.now c.type_inv.a c.type_inv.b (omega arith), c.multiply_add.ensures,
-    c.add_to.ensures)
+    omega (
+      arith,
+      room_both c.add_to.new.sum c.args.a.now c.args.b.now c.type_inv.a c.type_inv.b (omega arith),
+      c.multiply_add.ensures,
+      c.add_to.ensures,
+    )
