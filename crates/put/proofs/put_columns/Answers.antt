@@ -23,6 +23,6 @@ unfolding columns_bytes
 loop-i-preserved c =     let a = c.args in
     let i = c.loop-i.i in
     let x : to_z w32 (of_z w32 (get_or a.x i (pos 0))) ≡ get_or a.x i (pos 0) = search rules in
-    let y : to_z w32 (of_z w32 (get_or a.t4 i (pos 0))) ≡ get_or a.t4 i (pos 0) = search rules in
-    let point = field_bytes position_fields (get_or a.x i (pos 0) ∷ get_or a.t4 i (pos 0) ∷ []) in
-    (search rules, rw add-one (next c.loop-i.invariant.1 point (columns_length a.x a.t4 i) (simp (x, y) at c.put_point.ensures)))
+    let y : to_z w32 (of_z w32 (get_or a.y i (pos 0))) ≡ get_or a.y i (pos 0) = search rules in
+    let point = field_bytes position_fields (get_or a.x i (pos 0) ∷ get_or a.y i (pos 0) ∷ []) in
+    (search rules, rw add-one (next c.loop-i.invariant.1 point (columns_length a.x a.y i) (simp (x, y) at c.put_point.ensures)))
