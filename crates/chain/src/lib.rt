@@ -7,7 +7,7 @@ ghost use Rattle.chain.specs.Chain.{bytes_of, pair_bytes, number_at, continues, 
 use numbers::{u16_at, u32_at};
 
 // How many bytes each number of a pair has.
-#[derive(Drop)]
+#[derive(Clone, Copy)]
 pub enum Width {
     Two,
     Four,

@@ -26,28 +26,28 @@ pub fn is_version(n: u16) -> bool
 }
 
 // Kind of wood: k90 depends on it.
-#[derive(Drop)]
+#[derive(Clone, Copy)]
 pub enum Kind {
     Softwood,
     Hardwood,
 }
 
 // Characteristic density in kg/m³.
-#[derive(Drop)]
+#[derive(Clone, Copy)]
 pub struct Wood {
     pub kind: Kind,
     pub density: u64,
 }
 
 // What the table of classes has at a code.
-#[derive(Drop)]
+#[derive(Clone, Copy)]
 pub enum Class {
     Known(Wood),
     Unknown,
 }
 
 // What another table has at a code.
-#[derive(Drop)]
+#[derive(Clone, Copy)]
 pub enum Listed {
     Value(u64),
     Unlisted,
@@ -72,6 +72,7 @@ fn hardwood(density: u64) -> Class
 }
 
 // The printed table of classes.
+#[tactic(auto, unfolding(crate::specs::Tables::class_of, crate::specs::Tables::printed_classes))]
 pub fn class_of(class: u8) -> Class
     ensures { result ≡ class_of class }
 {
@@ -127,6 +128,7 @@ pub fn k90(kind: Kind, diameter: u8) -> u64
 }
 
 // Tensile strength fu of a steel in N/mm².
+#[tactic(auto, unfolding(crate::specs::Tables::steel_of))]
 pub fn steel_strength(steel: u8) -> Listed
     ensures { result ≡ steel_of steel }
 {
@@ -139,6 +141,7 @@ pub fn steel_strength(steel: u8) -> Listed
 }
 
 // kmod in hundredths.
+#[tactic(auto, unfolding(crate::specs::Tables::kmod_of))]
 pub fn kmod_hundredths(service_class: u8, duration: u8) -> Listed
     ensures { result ≡ kmod_of service_class duration }
 {

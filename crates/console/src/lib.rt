@@ -15,7 +15,7 @@ use line::LONGEST;
 pub const MOST_BYTES: usize = 4096;
 
 // What came: some bytes, none at the end of the input; or a read failed.
-#[derive(Drop)]
+#[derive(Clone, Copy)]
 pub enum Came {
     Bytes(usize),
     Failed,
@@ -24,7 +24,7 @@ pub enum Came {
 // What came at first, until the buffer was full or the input ended, and what came when one byte more was asked for. Then what follows from
 // that: how many bytes are in the buffer, whether more came, the report on them, and the report's line with its length. Where a read
 // failed the report says nothing and the length is 0.
-#[derive(Drop)]
+#[derive(Clone, Copy)]
 pub struct Reply {
     pub first: Came,
     pub second: Came,

@@ -11,14 +11,14 @@ use spacing::{signed, view};
 const TENTHS: u64 = 10;
 
 // The size of the force along a member's grain, in N, and the share of its rows, in ten-thousandths.
-#[derive(Drop)]
+#[derive(Clone, Copy)]
 pub struct Taken {
     pub along: u64,
     pub share: u64,
 }
 
 // Both members, and the lesser of their shares: the row share.
-#[derive(Drop)]
+#[derive(Clone, Copy)]
 pub struct Both {
     pub member1: Taken,
     pub member2: Taken,

@@ -8,14 +8,14 @@ use spacing::signed;
 pub const FARTHEST: u64 = 200000;
 
 // A row, or a part of one: its number of dowels, and the least distance along between two of them, FARTHEST at most.
-#[derive(Drop)]
+#[derive(Clone, Copy)]
 pub struct Row {
     pub number: u64,
     pub least: u64,
 }
 
 // What a pass over the dowels has seen of a row so far, and where the last dowel of it lies along.
-#[derive(Drop)]
+#[derive(Clone, Copy)]
 pub struct Seen {
     pub number: u64,
     pub least: u64,

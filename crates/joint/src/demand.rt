@@ -21,7 +21,7 @@ const BY_ROW: u64 = 5200000000000;
 
 // What the use depends on: the squared force, what it takes of the members, twice the number of shear planes that count, kmod in hundredths, the
 // capacity of a plane in thousandths of a newton.
-#[derive(Drop)]
+#[derive(Clone, Copy)]
 pub struct Demand {
     pub total: u64,
     pub member1: Taken,

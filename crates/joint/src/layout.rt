@@ -16,13 +16,13 @@ use codes::is_version;
 use numbers::u16_at;
 
 // The first byte of a part, and how many it has.
-#[derive(Drop)]
+#[derive(Clone, Copy)]
 pub(crate) struct Part {
     pub start: usize,
     pub bytes: usize,
 }
 
-#[derive(Drop)]
+#[derive(Clone, Copy)]
 pub(crate) struct Parts {
     pub members: Part,
     pub dowel: Part,
@@ -31,7 +31,7 @@ pub(crate) struct Parts {
 }
 
 // What reading the layout finds: the parts, or a refusal's number.
-#[derive(Drop)]
+#[derive(Clone, Copy)]
 pub(crate) enum Layout {
     Laid(Parts),
     Refused(u8),

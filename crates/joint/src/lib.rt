@@ -24,7 +24,7 @@ use crate::report::{Report, Verdict};
 pub const MOST_DOWELS: usize = 64;
 
 // Limits in tenths of a millimetre.
-#[derive(Drop)]
+#[derive(Clone, Copy)]
 pub struct Outline {
     pub x0: i32,
     pub y0: i32,
@@ -33,7 +33,7 @@ pub struct Outline {
 }
 
 // Grain 0 runs along x, 1 along y; thickness in tenths of a millimetre.
-#[derive(Drop)]
+#[derive(Clone, Copy)]
 pub struct Member {
     pub class: u8,
     pub grain: u8,
@@ -42,7 +42,7 @@ pub struct Member {
 }
 
 // Kind 1. Member 1 is the side member, member 2 the other, or with two shear planes the middle one.
-#[derive(Drop)]
+#[derive(Clone, Copy)]
 pub struct Members {
     pub planes: u8,
     pub member1: Member,
@@ -50,14 +50,14 @@ pub struct Members {
 }
 
 // Kind 2. Diameter in whole millimetres.
-#[derive(Drop)]
+#[derive(Clone, Copy)]
 pub struct Dowel {
     pub diameter: u8,
     pub steel: u8,
 }
 
 // Kind 3. Coordinates in tenths of a millimetre; places from n on are 0.
-#[derive(Drop)]
+#[derive(Clone, Copy)]
 pub struct Positions {
     pub n: usize,
     pub x: [i32; MOST_DOWELS],
@@ -65,7 +65,7 @@ pub struct Positions {
 }
 
 // Kind 4. The force that the dowels put into member 2, in newtons.
-#[derive(Drop)]
+#[derive(Clone, Copy)]
 pub struct Loads {
     pub service_class: u8,
     pub duration: u8,
@@ -73,7 +73,7 @@ pub struct Loads {
     pub fy: i32,
 }
 
-#[derive(Drop)]
+#[derive(Clone, Copy)]
 pub struct Values {
     pub version: u16,
     pub members: Members,
@@ -83,14 +83,14 @@ pub struct Values {
 }
 
 // A refusal 1 to 9, and values that are all 0; or number 0 and the record's values.
-#[derive(Drop)]
+#[derive(Clone, Copy)]
 pub struct Reading {
     pub number: u8,
     pub values: Values,
 }
 
 // A refusal with its place, and values that are all 0; or number and place 0 and the record's values.
-#[derive(Drop)]
+#[derive(Clone, Copy)]
 pub struct Outcome {
     pub number: u8,
     pub member: u8,
@@ -100,7 +100,7 @@ pub struct Outcome {
 }
 
 // What testing the values finds: nothing to refuse, or a refusal's number.
-#[derive(Drop)]
+#[derive(Clone, Copy)]
 enum Stage {
     Passed,
     Refused(u8),

@@ -1,6 +1,6 @@
 // The report on a record: its refusal, or the verdict with the figures.
 
-#[derive(Drop)]
+#[derive(Clone, Copy)]
 pub enum Verdict {
     Fits,
     Overloaded,
@@ -9,7 +9,7 @@ pub enum Verdict {
 
 // The refusal's number and place, dowels counted from 1, all 0 where the record is accepted; the use in ten-thousandths, the capacity of a
 // shear plane in newtons and the row share in ten-thousandths, all 0 where it is refused.
-#[derive(Drop)]
+#[derive(Clone, Copy)]
 pub struct Report {
     pub verdict: Verdict,
     pub number: u8,

@@ -28,7 +28,7 @@ const BEYOND: u64 = 100000000;
 const HUNDREDTH: u64 = 16250;
 
 // Where a group of three cells stands: the dowel's diameter in mm, cos² of both members in units of 10^-12, the shear planes.
-#[derive(Drop)]
+#[derive(Clone, Copy)]
 pub struct Setting {
     pub diameter: u8,
     pub member1: u64,

@@ -4,7 +4,7 @@ ghost use Rattle.std.specs.Prelude.{◌≤◌, ◌<◌};
 
 use strength::roots;
 
-#[derive(Drop)]
+#[derive(Clone, Copy)]
 pub enum Factor {
     Wood,
     Steel,

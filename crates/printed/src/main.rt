@@ -22,7 +22,7 @@ const NONE: usize = 285;
 const ALTERED: usize = 136;
 
 // How many printed values were compared, and how many differ.
-#[derive(Drop)]
+#[derive(Clone, Copy)]
 struct Tally {
     compared: u64,
     differing: u64,

@@ -3,7 +3,7 @@
 // one number, with three digits for each thickness: 334_051_051 is 3,34 kN, 51 mm and 51 mm.
 ghost use Rattle.std.specs.Prelude.{◌≤◌, ◌<◌};
 
-#[derive(Drop)]
+#[derive(Clone, Copy)]
 pub enum Table {
     // Table 13-5: one shear plane, member 2 at the angle φ.
     Single,

@@ -25,7 +25,7 @@ const END_TOO_NEAR: u8 = 11;
 const EDGE_TOO_NEAR: u8 = 12;
 
 // A refusal 10, 11 or 12 with its place, dowels counted from 1; all 0 where the spacing passes.
-#[derive(Drop)]
+#[derive(Clone, Copy)]
 pub struct Fault {
     pub number: u8,
     pub member: u8,

@@ -3,14 +3,14 @@ ghost use Rattle.std.specs.Prelude.{◌≡◌, ◌≤◌, nat_abs};
 ghost use Rattle.spacing.specs.Spacing.{force_in, view_of};
 
 // The dowels put the force into member 2, and its opposite into member 1.
-#[derive(Drop)]
+#[derive(Clone, Copy)]
 pub enum Which {
     Member1,
     Member2,
 }
 
 // A member's grain (0 along x, 1 along y) and outline, in tenths.
-#[derive(Drop)]
+#[derive(Clone, Copy)]
 pub struct Piece {
     pub grain: u8,
     pub x0: i32,
@@ -20,7 +20,7 @@ pub struct Piece {
 }
 
 // The two ends and the two edges of a member, in tenths, and the components of the force in it, in N.
-#[derive(Drop)]
+#[derive(Clone, Copy)]
 pub struct Frame {
     pub low: i32,
     pub high: i32,
@@ -31,7 +31,7 @@ pub struct Frame {
 }
 
 // A member's frame, and the dowels' coordinates along and across its grain.
-#[derive(Drop)]
+#[derive(Clone, Copy)]
 pub struct View {
     pub frame: Frame,
     pub along: [i32; 64],

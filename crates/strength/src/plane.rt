@@ -2,7 +2,7 @@
 
 // One member: density in kg/m³, k90 in thousandths, the squared force component along the grain and the whole
 // squared force (cos²α = along/total), thickness in tenths of a millimetre.
-#[derive(Drop)]
+#[derive(Clone, Copy)]
 pub struct Timber {
     pub density: u64,
     pub k90: u64,
@@ -12,7 +12,7 @@ pub struct Timber {
 }
 
 // Members 1 (the side one) and 2, the dowel's diameter in mm, the steel's strength fu in N/mm², the number of shear planes.
-#[derive(Drop)]
+#[derive(Clone, Copy)]
 pub struct Plane {
     pub member1: Timber,
     pub member2: Timber,

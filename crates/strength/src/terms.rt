@@ -14,7 +14,7 @@ const UNIT: u64 = 1073741824;
 const UNIT_SQUARED: u64 = 1152921504606846976;
 
 // A bearing strength f = 82 (100 - d)/100 num/den.
-#[derive(Drop)]
+#[derive(Clone, Copy)]
 pub struct Bearing {
     pub num: [u32; 3],
     pub den: [u32; 3],
@@ -56,7 +56,7 @@ pub fn sum(a: &[u32; 5], b: &[u32; 5]) -> [u32; 5]
 
 // The bearings of both members and what is made of them: cross1 = num1 den2, cross2 = num2 den1, whole their sum, so that
 // s² = cross2/whole and c² = cross1/whole; nums = num1 num2.
-#[derive(Drop)]
+#[derive(Clone, Copy)]
 pub struct Joined {
     pub num1: [u32; 3],
     pub den1: [u32; 3],

@@ -19,7 +19,7 @@ pub const BUFFER_TOO_SHORT: u8 = 13;
 const RECORD_BYTES: usize = 78;
 
 // A member as it is handed over. Grain 0 runs along x, 1 along y; version 1 has no gx and gy.
-#[derive(Drop)]
+#[derive(Clone, Copy)]
 pub struct MemberFields {
     pub class: i32,
     pub grain: i32,
@@ -33,7 +33,7 @@ pub struct MemberFields {
 }
 
 // All numbers of a record but those of its dowels; version 1 has no plate.
-#[derive(Drop)]
+#[derive(Clone, Copy)]
 pub struct Fields {
     pub version: i32,
     pub planes: i32,
@@ -49,7 +49,7 @@ pub struct Fields {
 }
 
 // A refusal and length 0; or number 0 and how many bytes the record has.
-#[derive(Drop)]
+#[derive(Clone, Copy)]
 pub struct Written {
     pub number: u8,
     pub length: usize,

@@ -1,0 +1,30 @@
+use Rattle.std.proofs.Common.{◌≡◌, ℕ, ◌+◌, ◌*◌, ◌/◌, ◌^◌, ◌<◌, ◌≤◌, ◌∙◌, ap₂, lt_of_lt_of_le, lt_of_le_of_lt, mul-le-mul_right, mul-le-mul, arith, lit<, lit≤, rules}
+use Rattle.wide.proofs.Bits.{product_bits}
+use Rattle.strength.specs.Working.{wedge_of}
+use Rattle.strength.proofs.Room.{room, made, divided_is}
+use Rattle.strength.proofs.terms.wedge_term.Goals as goal
+
+below : (force num den root a b : ℕ) → a ≡ num * (force * root) → b ≡ den * (1073741824 + root) → 0 < den → force * num ≤ 1073741824 * den
+    → a < 18446744073709551616 * b
+below force num den root a b ea eb p h = omega (arith, mul-le-mul_right root h)
+
+quotient : (force num den root a b : ℕ) → a ≡ num * (force * root) → b ≡ den * (1073741824 + root) → a / b ≡ wedge_of (force * num) den root
+unfolding wedge_of 
+quotient force num den root a b ea eb = ap₂ (λ (x y : ℕ). x / y) (ea ∙ omega arith) eb
+
+scaled : {force root : ℕ} → force ≤ 924960000 → root ≤ 1073741824 → force * root < 2 ^ 60
+scaled h g = lt_of_le_of_lt (mul-le-mul h g) (lit< tt)
+
+pub multiply_add_u64-requires : goal.multiply_add_u64-requires
+multiply_add_u64-requires c = room _ 133 tt (product_bits 73 60 c.requires.force_within.num_bits (scaled c.requires.force_within.factor c.requires.root_bound)) tt
+
+pub multiply_add_u64-requires-2 : goal.multiply_add_u64-requires-2
+multiply_add_u64-requires-2 c = room _ 105 tt (product_bits 73 32 c.requires.force_within.den_bits (omega (arith, c.requires.root_bound))) tt
+
+pub quotient-requires : goal.quotient-requires
+quotient-requires c = below _ _ _ _ _ _ (made _ tt c.multiply_add_u64.ensures) (made _ tt c.multiply_add_u64-2.ensures) c.requires.force_within.positive
+    c.requires.force_within.bound
+
+pub returns : goal.returns
+returns c = divided_is c.quotient.ensures
+    ∙ quotient _ _ _ _ _ _ (made _ tt c.multiply_add_u64.ensures) (made _ tt c.multiply_add_u64-2.ensures)
