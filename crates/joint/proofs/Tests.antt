@@ -12,12 +12,12 @@ use mir.Syntax.{w32}
 use mir.Val.{SFits, of_z, to_z}
 
 -- `if !flag` was taken
-pub failed : {r t : Bool} → r ≡ t → not r ≡ true → t ≡ false
-failed e h = sym e ∙ not-true _ h
+pub failed : {r t : Bool} → r ≡ t → r ≡ false → t ≡ false
+failed e h = sym e ∙ h
 
 -- `if !flag` was not taken
-pub held : {r t : Bool} → r ≡ t → not r ≡ false → t ≡ true
-held e h = sym e ∙ not-false _ h
+pub held : {r t : Bool} → r ≡ t → r ≡ true → t ≡ true
+held e h = sym e ∙ h
 
 -- a signed number is 0 where its bits are
 pub zero_bits : (z : ℤ) → SFits w32 z → eqb (of_z w32 z) 0 ≡ eqb (nat_abs z) 0
@@ -26,7 +26,7 @@ zero_bits (negsuc n) h = ne_eqb (of_z w32 (negsuc n)) 0 (λ e. omega (arith, h.s
 
 -- a signed number is read back from its bits
 pub from_bits : {r z : ℤ} → r ≡ z → mag r < 2147483648 → to_z w32 (of_z w32 r) ≡ z
-from_bits e h = to_z-of_z (record { sfits = h }) ∙ e
+from_bits e h = to_z-of_z {w = w32} (record { sfits = h }) ∙ e
 
 -- a call's number that a branch compared
 pub equal : {r t n : ℕ} → r ≡ t → r ≡ n → eqb t n ≡ true

@@ -1,0 +1,22 @@
+use Prim.Native.Nat.{◌-◌, ◌≤◌}
+use borrow.Author.Rules.{rules}
+use mathlib.Core.Path.{◌∙◌, ◌≡◌, sym}
+use native.Mathlib.Omega.{arith}
+use Rattle.joint.proofs.Columns.{column_more, column_none, column_places}
+use Rattle.joint.proofs.Tests.{from_bits}
+use Rattle.joint.specs.Layout.{column}
+use Rattle.joint.specs.Stage.{eighths}
+use Rattle.joint.proofs.parts.column_of.Goals as goal
+
+pub loop-i-init : goal.loop-i-init
+loop-i-init c = (search rules, sym (column_none (eighths c.args.part.now c.args.at)))
+
+pub loop-i-preserved : goal.loop-i-preserved
+loop-i-preserved c = let a = c.args in
+    let l = c.loop-i in
+    (search rules, simp (l.invariant.1, column_more (eighths a.part.now a.at) l.i, from_bits c.i32_at-z.ensures c.i32_at-z.type_inv))
+
+pub returns : goal.returns
+returns c = let a = c.args in
+    let e : c.loop-i.i ≡ c.places-held.result = omega arith in
+    c.loop-i.invariant.1 ∙ rw (e, c.places-held.ensures) (column_places (eighths a.part.now a.at) a.n)
