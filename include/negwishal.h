@@ -1,6 +1,6 @@
 /* Judging a dowelled timber joint from C, and writing and reading its record.
  *
- * The library is target/staticlib/libnegwishal.a, made by `rt staticlib negwishal`.  docs/RECORD.md says how a record
+ * The library is target/staticlib/libnegwishal.a, made by `scripts/library`.  docs/RECORD.md says how a record
  * is written and what each refusal means.
  *
  * Later versions of the library know more versions of the record and refuse by numbers that do not exist yet.  A caller

@@ -1,5 +1,5 @@
 // The entries for C: a record is judged, its values are read, and a record is written from values. Each slice of numbers has an order that is
-// fixed for good.
+// fixed for good. The crate `negwishal_c` exports them under these names.
 #![tactic(auto)]
 
 ghost use Rattle.std.specs.Prelude.{◌≡◌, ◌≤◌, length};
@@ -33,8 +33,7 @@ fn verdict_code(v: Verdict) -> u64
 
 // Judges a record. A slice of fewer than eight numbers is left as it is and 1 comes back; else 0, and the report's fields stand in it:
 // verdict (0 refused, 1 fits, 2 overloaded), number, member, first, second, use, capacity, share.
-#[unsafe(no_mangle)]
-pub extern "C" fn negwishal_judge(bytes: &[u8], out: &mut [u64]) -> u32
+pub fn negwishal_judge(bytes: &[u8], out: &mut [u64]) -> u32
     ensures { Exported bytes.now out.old result out.new }
 {
     if out.len() < FIELDS {
@@ -80,8 +79,7 @@ fn hand_places(v: Values, x: &mut [i32], y: &mut [i32], marks: &mut [i32])
 // diameter, steel, plate, service class, duration, fx, fy; in `x`, `y` and `marks` a number for each of 64 dowels; in `answer` the
 // refusal 1 to 9 or 0, and the number of dowels. All but the refusal are 0 on refusal, and so is each number for which the record's
 // version has no field.
-#[unsafe(no_mangle)]
-pub extern "C" fn negwishal_read(
+pub fn negwishal_read(
     bytes: &[u8],
     fields: &mut [i32],
     x: &mut [i32],
@@ -112,8 +110,7 @@ pub extern "C" fn negwishal_read(
 // Writes a record from its numbers, which stand in `fields`, `x` and `y` as `negwishal_read` hands them out, but that `x` and `y` have a
 // number for each dowel and no more. Where `fields` or `answer` is too short (27, 2) nothing is written and 1 comes back; else 0, and
 // `answer` has the refusal or 0, and how many bytes of `buffer` are the record's.
-#[unsafe(no_mangle)]
-pub extern "C" fn negwishal_write(
+pub fn negwishal_write(
     fields: &[i32],
     x: &[i32],
     y: &[i32],

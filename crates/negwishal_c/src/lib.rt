@@ -1,0 +1,46 @@
+// The entries of `negwishal` as C sees them: each calls the entry of the same name there, and promises what that promises.
+#![tactic(auto)]
+
+ghost use Rattle.negwishal.specs.Export.{Exported};
+ghost use Rattle.negwishal.specs.Exchange.{places, ReadOut, WroteOut};
+
+// Judges a record.
+#[unsafe(no_mangle)]
+pub extern "C" fn negwishal_judge(bytes: &[u8], out: &mut [u64]) -> u32
+    ensures { Exported bytes.now out.old result out.new }
+{
+    negwishal::negwishal_judge(bytes, out)
+}
+
+// Reads a record's values.
+#[unsafe(no_mangle)]
+pub extern "C" fn negwishal_read(
+    bytes: &[u8],
+    fields: &mut [i32],
+    x: &mut [i32],
+    y: &mut [i32],
+    marks: &mut [i32],
+    answer: &mut [u64],
+) -> u32
+    ensures { ReadOut bytes.now
+        (places fields.old x.old y.old marks.old answer.old) result
+        (places fields.new x.new y.new marks.new answer.new) }
+{
+    negwishal::negwishal_read(bytes, fields, x, y, marks, answer)
+}
+
+// Writes a record from its numbers.
+#[unsafe(no_mangle)]
+pub extern "C" fn negwishal_write(
+    fields: &[i32],
+    x: &[i32],
+    y: &[i32],
+    marks: &[i32],
+    buffer: &mut [u8],
+    answer: &mut [u64],
+) -> u32
+    ensures { WroteOut fields.now x.now y.now buffer.old answer.old result
+        buffer.new answer.new }
+{
+    negwishal::negwishal_write(fields, x, y, marks, buffer, answer)
+}
