@@ -10,9 +10,14 @@ pub fn fail<R: Eprint + Alloc>(rt: &R, what: &str, error: io::Error) {
 }
 
 fn write_failure<R: Eprint + Alloc>(rt: &R, what: &str, error: io::Error) -> io::Result<()> {
-    let text = format!(in rt.alloc(); "{error}")?;
-    let words = without_number(text.as_str());
-    eprintln!(rt; "{what}: {words}")
+    match format!(in rt.alloc(); "{error}") {
+        Ok(text) => {
+            let words = without_number(text.as_str());
+            eprintln!(rt; "{what}: {words}")
+        }
+        // No memory for the words alone.
+        Err(_) => eprintln!(rt; "{what}: {error}"),
+    }
 }
 
 // An error of the system's ends in its number, as in ` (os error 21)`.
