@@ -1,6 +1,6 @@
 -- What fits: the value of so many limbs is below their weight, and sums and products of such values fit limbs enough.
 use Prim.Native.Nat.{ℕ, zero, suc, ◌+◌, ◌-◌, ◌*◌, ◌^◌, ◌<◌, ◌≤◌}
-use mathlib.Core.Path.{◌≡◌, refl, ap, ◌∙◌}
+use mathlib.Core.Path.{◌≡◌, refl, ap, sym, ◌∙◌}
 use mathlib.Core.List.{List}
 use native.Mathlib.Nat.{mul-le-mul}
 use native.Mathlib.Omega.{arith}
@@ -22,6 +22,13 @@ unfolding value
 zeros zero k = refl
 zeros (suc n) zero = refl
 zeros (suc n) (suc k) = ap (λ (z : ℕ). 0 + 4294967296 * z) (zeros n k)
+
+-- the first n of enough elements are n
+pub taken : (n : ℕ) (l : List ℕ) → n ≤ length l → n ≡ length (take n l)
+taken n l h = sym (length-take-le n l h)
+
+pub taken_within : (n : ℕ) (l : List ℕ) (m : ℕ) → n ≤ length l → n ≤ m → length (take n l) ≤ m
+taken_within n l m h e = rw (length-take-le n l h) e
 
 -- an array of zeros, and the first n of it
 pub first_zeros : (n k : ℕ) → n ≤ k → (value (take n (replicate k 0)) ≡ 0) × (length {A = ℕ} (take n (replicate k 0)) ≡ n)
