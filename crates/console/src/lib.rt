@@ -1,4 +1,4 @@
-// One joint record from a file descriptor, answered by one line on standard output (01, 'Printing').
+// One joint record from a reader, answered by one line on standard output (01, 'Printing').
 #![tactic(auto)]
 
 ghost use Rattle.std.specs.Prelude.{◌≡◌, ◌≤◌, length};
@@ -8,8 +8,9 @@ ghost use Rattle.console.specs.Input.{count_of, failed, InputReported, Told, Rep
 
 use joint::refusals::PAIRS_AGAINST_RULE;
 use joint::report::{Report, Verdict};
-use libc::STDOUT_FILENO;
 use line::LONGEST;
+use std::io;
+use std::io::Read;
 
 // The most bytes that are read: more are refusal 4, before any other test.
 pub const MOST_BYTES: usize = 4096;
@@ -84,23 +85,22 @@ pub fn judge_input(buffer: &[u8], count: usize, more: bool) -> Report
 }
 
 // One read into a part of the buffer.
-fn read_part(fd: i32, part: &mut [u8]) -> Came
+fn read_part<R: Read>(from: &mut R, part: &mut [u8]) -> Came
     ensures { count_of result ≤ length part.old }
 {
-    let got = libc::read(fd, part);
-    if got < 0 {
-        return Came::Failed;
+    match from.read(part) {
+        Ok(n) => Came::Bytes(n),
+        Err(_) => Came::Failed,
     }
-    Came::Bytes(io::count(got, part))
 }
 
 // Reads again and again until the buffer is full, the input ends or a read fails.
-fn fill(fd: i32, buffer: &mut [u8]) -> Came
+fn fill<R: Read>(from: &mut R, buffer: &mut [u8]) -> Came
     ensures { count_of result ≤ length buffer.old }
 {
     let mut done = 0;
     while done < buffer.len() {
-        let came = read_part(fd, &mut buffer[done..]);
+        let came = read_part(from, &mut buffer[done..]);
         let Came::Bytes(n) = came else {
             return Came::Failed;
         };
@@ -113,12 +113,12 @@ fn fill(fd: i32, buffer: &mut [u8]) -> Came
 }
 
 // One byte more, where no read before it failed.
-fn one_more(fd: i32, first: Came) -> Came {
+fn one_more<R: Read>(from: &mut R, first: Came) -> Came {
     let Came::Bytes(_) = first else {
         return Came::Failed;
     };
     let mut next = [0u8; 1];
-    read_part(fd, &mut next)
+    read_part(from, &mut next)
 }
 
 // What the program answers where `first` came, and `second` when one byte more was asked for.
@@ -154,28 +154,63 @@ pub fn told(first: Came, second: Came, buffer: &[u8]) -> Reply
 }
 
 // Reads a record into the buffer and judges it. Nothing is written.
-pub fn judged(fd: i32, buffer: &mut [u8; MOST_BYTES]) -> Reply
+pub fn judged<R: Read>(from: &mut R, buffer: &mut [u8; MOST_BYTES]) -> Reply
     ensures { Replied buffer.new result }
 {
-    let first = fill(fd, buffer);
-    let second = one_more(fd, first);
+    let first = fill(from, buffer);
+    let second = one_more(from, first);
     told(first, second, buffer)
+}
+
+// A reader that keeps why its last failed read failed, which `Came` does not say.
+#[derive(Drop)]
+pub struct Noting<R> {
+    from: R,
+    error: Option<io::Error>,
+}
+
+impl<R> Noting<R> {
+    pub fn new(from: R) -> Noting<R> {
+        Noting { from, error: None }
+    }
+
+    // Says on standard error what failed, if a read did.
+    pub fn tell<P: Eprint + Alloc>(&self, rt: &P, what: &str) {
+        if let Some(error) = self.error {
+            failure::fail(rt, what, error);
+        }
+    }
+}
+
+impl<R: Read> Read for Noting<R> {
+    fn read(&mut self, buf: &mut [u8]) -> io::Result<usize> {
+        let got = self.from.read(buf);
+        if let Err(error) = got {
+            self.error = Some(error);
+        }
+        got
+    }
 }
 
 // Reads a record into the buffer, judges it and writes its line by one write, which goes on with the rest where it was short. Where a
 // read fails nothing is written but what failed, on standard error; so too where the write fails.
-pub fn answer(fd: i32, buffer: &mut [u8; MOST_BYTES]) -> Reply
+pub fn answer<P: Print + Eprint + Alloc, R: Read>(
+    rt: &P,
+    from: &mut R,
+    buffer: &mut [u8; MOST_BYTES],
+) -> Reply
     ensures { Replied buffer.new result }
 {
-    let a = judged(fd, buffer);
+    let mut from = Noting::new(from);
+    let a = judged(&mut from, buffer);
     let line = a.line;
     let length = a.length;
     if length == 0 {
-        os::fail(b"standard input");
+        from.tell(rt, "standard input");
         return a;
     }
-    if !io::write_all(STDOUT_FILENO, &line[..length]) {
-        os::fail(b"standard output");
+    if let Err(error) = rt.write_all(&line[..length]) {
+        failure::fail(rt, "standard output", error);
     }
     a
 }

@@ -1,13 +1,24 @@
 // Reads one joint record from standard input and writes its answer as one line. Run here on joint B of 01.
 #![tactic(auto)]
 
-use libc::{STDERR_FILENO, STDIN_FILENO};
+use std::env::{Env, FillError};
+use std::io;
 
-fn main() {
-    if 1 < os::arg_count() {
-        io::write_all(STDERR_FILENO, b"usage: dowel < RECORD\n");
-        return;
+fn main(rt: HostRuntime) -> io::Result<()> {
+    if has_argument(&rt) {
+        return eprintln!(rt; "usage: dowel < RECORD");
     }
     let mut buffer = [0u8; 4096];
-    console::answer(STDIN_FILENO, &mut buffer);
+    console::answer(&rt, &mut rt.stdin(), &mut buffer);
+    Ok(())
+}
+
+// Whether anything stands after the program's name.
+fn has_argument<R: Env>(rt: &R) -> bool {
+    let mut none = [0u8; 0];
+    match rt.arg(1, &mut none) {
+        Ok(_) => true,
+        Err(FillError::TooLong) => true,
+        Err(FillError::NotPresent) => false,
+    }
 }

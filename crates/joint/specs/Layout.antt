@@ -4,7 +4,6 @@ use Rattle.std.specs.Prelude.{ℕ, zero, suc, ◌+◌, ◌*◌, List, [], ◌∷
 use Rattle.numbers.specs.Numbers.{u8_at}
 use Rattle.numbers.specs.Fields.{Width, size, field, signed_field, field_bytes}
 use Rattle.numbers.specs.Fields.Width.{U8, U16, I32}
-use Rattle.joint.specs.declared.Outline.{Outline}
 use Rattle.joint.specs.declared.Member.{Member}
 use Rattle.joint.specs.declared.Members.{Members}
 use Rattle.joint.specs.declared.Dowel.{Dowel}

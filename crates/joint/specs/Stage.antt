@@ -1,6 +1,6 @@
 -- What the stages of reading hand to one another, by the tests of `Refusal`: the case of the enum for each number, and the facts that a
 -- later stage asks. Nobody needs to believe this: `refusal` is equal to `outcome_of`.
-use Rattle.std.specs.Prelude.{ℕ, zero, suc, ◌+◌, ◌*◌, ◌≤◌, ◌<◌, ◌≡◌, List, [], ◌∷◌, Bool, cond, not, ◌||◌, eqb, length, get_or, take, drop, ℤ}
+use Rattle.std.specs.Prelude.{ℕ, zero, suc, ◌+◌, ◌*◌, ◌≤◌, ◌<◌, ◌≡◌, List, [], ◌∷◌, Bool, cond, ◌||◌, eqb, length, get_or, take, drop, ℤ}
 use Rattle.numbers.specs.Numbers.{u8_at, i32_at}
 use Rattle.joint.specs.Layout.{pair_offset, pair_length, pair_sum, kind_of_pair, pair_of_kind, part_of_kind}
 use Rattle.joint.specs.Refusal.{Test, test, refusal5, refusal6}

@@ -1,56 +1,54 @@
 // Judges the record files that its arguments name, and writes the program's line of each.
 #![tactic(auto)]
 
-use libc::STDOUT_FILENO;
+use console::Noting;
 use line::put;
+use std::fs::File;
+use std::io::ErrorKind;
+use std::{env, io};
 
-fn main() {
-    let mut i: usize = 1;
-    while i < 1000 {
-        if !judge_file(i) {
-            return;
+fn main(rt: HostRuntime) -> io::Result<()> {
+    for path in env::args(&rt)?.skip(1) {
+        if !judge_file(&rt, path.as_str()) {
+            return Ok(());
         }
-        i += 1;
     }
+    Ok(())
 }
 
 // Writes a name of up to 4,096 bytes and a line of up to 92 together, by one write.
-fn write_named(name: &[u8], line: &[u8]) -> bool {
+fn write_named(rt: &HostRuntime, name: &[u8], line: &[u8]) -> io::Result<()> {
     if 4096 < name.len() {
-        return false;
+        return Err(io::Error::from(ErrorKind::InvalidInput));
     }
     if 92 < line.len() {
-        return false;
+        return Err(io::Error::from(ErrorKind::InvalidInput));
     }
     let mut text = [0u8; 4190];
     let view: &mut [u8] = &mut text;
     let colon = put(name, view, 0);
     let start = put(b": ", view, colon);
     let end = put(line, view, start);
-    io::write_all(STDOUT_FILENO, &text[..end])
+    rt.write_all(&text[..end])
 }
 
-// The file named by argument i; false where there is none.
-fn judge_file(i: usize) -> bool {
-    let mut path = io::buffer();
-    let length = os::arg(i, &mut path);
-    if os::errno() != 0 {
-        return false;
-    }
-    let fd = os::open_read(&path[..length]);
-    if fd < 0 {
-        os::fail(&path[..length]);
-        return false;
-    }
+// The file of that name; false where it cannot be opened.
+fn judge_file(rt: &HostRuntime, path: &str) -> bool {
+    let mut file = match File::open(rt, path) {
+        Ok(file) => Noting::new(file),
+        Err(error) => {
+            failure::fail(rt, path, error);
+            return false;
+        }
+    };
     let mut buffer = [0u8; 4096];
-    let a = console::judged(fd, &mut buffer);
+    let a = console::judged(&mut file, &mut buffer);
     let line = a.line;
     let n = a.length;
     if n == 0 {
-        os::fail(&path[..length]);
-    } else if !write_named(&path[..length], &line[..n]) {
-        os::fail(b"standard output");
+        file.tell(rt, path);
+    } else if let Err(error) = write_named(rt, path.as_bytes(), &line[..n]) {
+        failure::fail(rt, "standard output", error);
     }
-    libc::close(fd);
     true
 }

@@ -1,39 +1,39 @@
 // Loads the table files that its arguments name, and writes of each 0, or 14 or 15 where it is turned away.
 #![tactic(auto)]
 
-use libc::STDOUT_FILENO;
+use std::fs::File;
+use std::io::Read;
+use std::{env, io};
 
 // Longer than any table that it is run on.
-const LONGEST: usize = 70000;
+const LONGEST: u64 = 70000;
 
-// The file named by argument i; false where there is none.
-fn load_file(i: usize) -> bool {
-    let mut path = io::buffer();
-    let length = os::arg(i, &mut path);
-    if os::errno() != 0 {
-        return false;
-    }
-    let fd = os::open_read(&path[..length]);
-    if fd < 0 {
-        os::fail(&path[..length]);
-        return false;
-    }
-    let mut bytes = [0u8; LONGEST];
-    let n = io::read_full(fd, &mut bytes);
-    libc::close(fd);
-    io::write_all(STDOUT_FILENO, &path[..length]);
-    io::write_all(STDOUT_FILENO, b": ");
-    io::print_decimal(STDOUT_FILENO, tables::load(&bytes[..n]) as u64);
-    io::write_all(STDOUT_FILENO, b"\n");
-    true
+// At most LONGEST bytes of a file.
+fn contents(rt: &HostRuntime, path: &str) -> io::Result<Vec<u8>> {
+    let mut bytes = Vec::new(rt.alloc());
+    File::open(rt, path)?.take(LONGEST).read_to_end(&mut bytes)?;
+    Ok(bytes)
 }
 
-fn main() {
-    let mut i: usize = 1;
-    while i < 1000 {
-        if !load_file(i) {
-            return;
+// The file of that name; false where it cannot be read.
+fn load_file(rt: &HostRuntime, path: &str) -> io::Result<bool> {
+    let bytes = match contents(rt, path) {
+        Ok(bytes) => bytes,
+        Err(error) => {
+            failure::fail(rt, path, error);
+            return Ok(false);
         }
-        i += 1;
+    };
+    let answer = tables::load(bytes.as_slice());
+    println!(rt; "{path}: {answer}")?;
+    Ok(true)
+}
+
+fn main(rt: HostRuntime) -> io::Result<()> {
+    for path in env::args(&rt)?.skip(1) {
+        if !load_file(&rt, path.as_str())? {
+            return Ok(());
+        }
     }
+    Ok(())
 }

@@ -1,5 +1,5 @@
 -- The entries for C that read a record's values and write a record (02, A2): what comes back, and what every lent slice holds afterwards.
-use Rattle.std.specs.Prelude.{ℕ, ◌≡◌, Bool, cond, ◌||◌, List, [], ◌∷◌, ltb, ℤ, length}
+use Rattle.std.specs.Prelude.{ℕ, ◌≡◌, Bool, cond, ◌||◌, List, ltb, ℤ, length}
 use Rattle.joint.specs.declared.Reading.{Reading}
 use Rattle.joint.specs.Refusal.{reading_of}
 use Rattle.writer.specs.declared.Written.{Written}

@@ -10,7 +10,7 @@ ghost use Rattle.std.specs.Prelude.{◌≤◌};
 
 use codes::Kind;
 use factors::Factor;
-use libc::STDOUT_FILENO;
+use std::io;
 use strength::plane::{Plane, Timber};
 use strength::{capacity, moment};
 use tables::Table;
@@ -28,22 +28,23 @@ struct Tally {
     differing: u64,
 }
 
-fn main() {
-    write_tally(b"Tables 13-5 to 13-7, cells: ", all_tables(NONE));
-    write_tally(b"one cell altered by one unit: ", all_tables(ALTERED));
-    write_tally(b"factors k1: ", all_factors(Factor::Wood, 8));
-    write_tally(b"factors k2: ", all_factors(Factor::Steel, 3));
-    write_tally(b"Example 13-1, M and capacity: ", example(145930, 13445));
-    write_tally(b"altered by one unit each: ", example(145940, 13444));
+fn main(rt: HostRuntime) -> io::Result<()> {
+    write_tally(&rt, "Tables 13-5 to 13-7, cells: ", all_tables(NONE))?;
+    write_tally(&rt, "one cell altered by one unit: ", all_tables(ALTERED))?;
+    write_tally(&rt, "factors k1: ", all_factors(Factor::Wood, 8))?;
+    write_tally(&rt, "factors k2: ", all_factors(Factor::Steel, 3))?;
+    write_tally(
+        &rt,
+        "Example 13-1, M and capacity: ",
+        example(145930, 13445),
+    )?;
+    write_tally(&rt, "altered by one unit each: ", example(145940, 13444))
 }
 
-fn write_tally(name: &[u8], t: Tally) {
-    io::write_all(STDOUT_FILENO, name);
-    io::write_all(STDOUT_FILENO, b"compared ");
-    io::print_decimal(STDOUT_FILENO, t.compared);
-    io::write_all(STDOUT_FILENO, b", differing ");
-    io::print_decimal(STDOUT_FILENO, t.differing);
-    io::write_all(STDOUT_FILENO, b"\n");
+fn write_tally(rt: &impl Print, name: &str, t: Tally) -> io::Result<()> {
+    let compared = t.compared;
+    let differing = t.differing;
+    println!(rt; "{name}compared {compared}, differing {differing}")
 }
 
 // The three tables, with the altered cell in Table 13-6.

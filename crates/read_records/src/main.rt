@@ -1,57 +1,56 @@
 // Reads the record files that its arguments name, and writes of each the refusal with its place, or `accepted`.
 #![tactic(auto)]
 
-use libc::STDOUT_FILENO;
+use std::fs::File;
+use std::io::Read;
+use std::{env, io};
 
 // Longer than any record that it is run on.
-const LONGEST: usize = 70000;
+const LONGEST: u64 = 70000;
 
-fn number(n: u8) {
-    io::write_all(STDOUT_FILENO, b" ");
-    io::print_decimal(STDOUT_FILENO, n as u64);
+fn number(rt: &HostRuntime, n: u8) -> io::Result<()> {
+    print!(rt; " {n}")
 }
 
 // The refusal of the record that was read, on the rest of the line.
-fn write_refusal(bytes: &[u8]) {
+fn write_refusal(rt: &HostRuntime, bytes: &[u8]) -> io::Result<()> {
     let outcome = joint::refusal(bytes);
     if outcome.number == 0 {
-        io::write_all(STDOUT_FILENO, b" accepted\n");
-        return;
+        return println!(rt; " accepted");
     }
-    number(outcome.number);
-    number(outcome.member);
-    number(outcome.first);
-    number(outcome.second);
-    io::write_all(STDOUT_FILENO, b"\n");
+    number(rt, outcome.number)?;
+    number(rt, outcome.member)?;
+    number(rt, outcome.first)?;
+    number(rt, outcome.second)?;
+    println!(rt; "")
 }
 
-// The file named by argument i; false where there is none.
-fn write_file(i: usize) -> bool {
-    let mut path = io::buffer();
-    let length = os::arg(i, &mut path);
-    if os::errno() != 0 {
-        return false;
-    }
-    let fd = os::open_read(&path[..length]);
-    if fd < 0 {
-        os::fail(&path[..length]);
-        return false;
-    }
-    let mut bytes = [0u8; LONGEST];
-    let n = io::read_full(fd, &mut bytes);
-    libc::close(fd);
-    io::write_all(STDOUT_FILENO, &path[..length]);
-    io::write_all(STDOUT_FILENO, b":");
-    write_refusal(&bytes[..n]);
-    true
+// At most LONGEST bytes of a file.
+fn contents(rt: &HostRuntime, path: &str) -> io::Result<Vec<u8>> {
+    let mut bytes = Vec::new(rt.alloc());
+    File::open(rt, path)?.take(LONGEST).read_to_end(&mut bytes)?;
+    Ok(bytes)
 }
 
-fn main() {
-    let mut i: usize = 1;
-    while i < 1000 {
-        if !write_file(i) {
-            return;
+// The file of that name; false where it cannot be read.
+fn write_file(rt: &HostRuntime, path: &str) -> io::Result<bool> {
+    let bytes = match contents(rt, path) {
+        Ok(bytes) => bytes,
+        Err(error) => {
+            failure::fail(rt, path, error);
+            return Ok(false);
         }
-        i += 1;
+    };
+    print!(rt; "{path}:")?;
+    write_refusal(rt, bytes.as_slice())?;
+    Ok(true)
+}
+
+fn main(rt: HostRuntime) -> io::Result<()> {
+    for path in env::args(&rt)?.skip(1) {
+        if !write_file(&rt, path.as_str())? {
+            return Ok(());
+        }
     }
+    Ok(())
 }

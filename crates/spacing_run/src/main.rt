@@ -8,14 +8,18 @@ ghost use Rattle.std.specs.Prelude.{◌+◌, ◌*◌, ◌≤◌};
 ghost use Rattle.spacing.specs.Spacing.{Given};
 
 use group::share;
-use libc::{STDIN_FILENO, STDOUT_FILENO};
 use spacing::verdict::Fault;
 use spacing::view::{Piece, Which};
 use spacing::{signed, verdict, view};
+use std::io;
+use std::io::Read;
 
 const FIELD: usize = 9;
 
 const BEFORE_DOWELS: usize = 14;
+
+// The most bytes that are read.
+const MOST_BYTES: u64 = 65536;
 
 // Tenths of a millimetre in one.
 const TENTHS: u64 = 10;
@@ -88,19 +92,19 @@ fn member(s: &[u8], k: usize) -> Piece
     }
 }
 
-fn print(n: u64) {
-    io::print_decimal(STDOUT_FILENO, n);
-    io::write_all(STDOUT_FILENO, b" ");
+fn print(rt: &HostRuntime, n: u64) -> io::Result<()> {
+    print!(rt; "{n} ")
 }
 
-fn print_fault(f: Fault) {
-    print(f.number as u64);
-    print(f.member as u64);
-    print(f.first as u64);
-    print(f.second as u64);
+fn print_fault(rt: &HostRuntime, f: Fault) -> io::Result<()> {
+    print(rt, f.number as u64)?;
+    print(rt, f.member as u64)?;
+    print(rt, f.first as u64)?;
+    print(rt, f.second as u64)
 }
 
 fn print_share(
+    rt: &HostRuntime,
     which: Which,
     m: Piece,
     d: u64,
@@ -109,17 +113,17 @@ fn print_share(
     x: [i32; 64],
     y: [i32; 64],
     count: usize,
-)
+) -> io::Result<()>
     requires { Given d fx fy count × (6 ≤ d) × (1 ≤ count) }
 {
     let view = view::view_of(which, m, fx, fy, x, y);
     let along = view.along;
     let across = view.across;
-    print(share::member_share(d, TENTHS * d, along, across, count));
+    print(rt, share::member_share(d, TENTHS * d, along, across, count))
 }
 
 // A joint from field k on, with its forces and sizes within the limits of a record.
-fn joint(s: &[u8], k: usize, count: usize)
+fn joint(rt: &HostRuntime, s: &[u8], k: usize, count: usize) -> io::Result<()>
     requires { (k ≤ 7100) × (1 ≤ count) × (count ≤ 64) }
 {
     let d = signed::size(number(s, k));
@@ -129,10 +133,11 @@ fn joint(s: &[u8], k: usize, count: usize)
     let member2 = member(s, k + 8);
     let x = column(s, k + 14, count);
     let y = column(s, k + 15, count);
-    verdicts(member1, member2, d, fx, fy, x, y, count);
+    verdicts(rt, member1, member2, d, fx, fy, x, y, count)
 }
 
 fn verdicts(
+    rt: &HostRuntime,
     member1: Piece,
     member2: Piece,
     d: u64,
@@ -141,49 +146,53 @@ fn verdicts(
     x: [i32; 64],
     y: [i32; 64],
     count: usize,
-)
+) -> io::Result<()>
     requires { (1 ≤ count) × (count ≤ 64) }
 {
     let wide = signed::size(fx);
     let high = signed::size(fy);
     if d < 6 {
-        return;
+        return Ok(());
     }
     if 30 < d {
-        return;
+        return Ok(());
     }
     if 1000000 < wide {
-        return;
+        return Ok(());
     }
     if 1000000 < high {
-        return;
+        return Ok(());
     }
     if wide + high == 0 {
-        return;
+        return Ok(());
     }
-    print_fault(verdict::spacing_verdict(member1, member2, d, fx, fy, x, y, count));
-    print_share(Which::Member1, member1, d, fx, fy, x, y, count);
-    print_share(Which::Member2, member2, d, fx, fy, x, y, count);
-    io::write_all(STDOUT_FILENO, b"\n");
+    print_fault(
+        rt,
+        verdict::spacing_verdict(member1, member2, d, fx, fy, x, y, count),
+    )?;
+    print_share(rt, Which::Member1, member1, d, fx, fy, x, y, count)?;
+    print_share(rt, Which::Member2, member2, d, fx, fy, x, y, count)?;
+    println!(rt; "")
 }
 
 // Each joint in turn, until the input ends.
-fn joints(s: &[u8]) {
+fn joints(rt: &HostRuntime, s: &[u8]) -> io::Result<()> {
     let mut k = 0;
     while k * FIELD < s.len() {
         if 7100 < k {
-            return;
+            return Ok(());
         }
         let count = signed::size(number(s, k + 13)) as usize;
         if count < 1 {
-            return;
+            return Ok(());
         }
         if 64 < count {
-            return;
+            return Ok(());
         }
-        joint(s, k, count);
+        joint(rt, s, k, count)?;
         k += BEFORE_DOWELS + 2 * count;
     }
+    Ok(())
 }
 
 // n times a share, to the nearest of units of `unit` ten-thousandths.
@@ -194,7 +203,7 @@ fn rounded(share: u64, n: u64, unit: u64) -> u64
 }
 
 // A row of n dowels 5 d apart, d = 12 mm: E n/10,000 and (E + 2) n/10,000 in hundredths, and E/10,000 in thousandths.
-fn row(n: usize)
+fn row(rt: &HostRuntime, n: usize) -> io::Result<()>
     requires { (1 ≤ n) × (n ≤ 10) }
 {
     let mut x = [0i32; 64];
@@ -209,32 +218,32 @@ fn row(n: usize)
     x[9] = 5400;
     let share = share::member_share(12, 12 * TENTHS, x, [0i32; 64], n);
     if 10000 < share {
-        return;
+        return Ok(());
     }
-    print(rounded(share, n as u64, 100));
-    print(rounded(share + 2, n as u64, 100));
-    print(rounded(share, 1, 10));
-    io::write_all(STDOUT_FILENO, b"\n");
+    print(rt, rounded(share, n as u64, 100))?;
+    print(rt, rounded(share + 2, n as u64, 100))?;
+    print(rt, rounded(share, 1, 10))?;
+    println!(rt; "")
 }
 
 // 001, Table 13-2, the row of 0 degrees, n from 2 to 10: `stdout` has n_ef, again n_ef, and n_ef/n as 001 prints them. The other
 // rows of the table follow from 001's (13.2), "für 0° ≤ α ≤ 90° wird n_ef linear interpoliert", up to n_ef = n at 90 degrees. 01
 // takes the effective number of 0 degrees at every angle, so no share speaks of them.
-fn table_13_2() {
-    row(2);
-    row(3);
-    row(4);
-    row(5);
-    row(6);
-    row(7);
-    row(8);
-    row(9);
-    row(10);
+fn table_13_2(rt: &HostRuntime) -> io::Result<()> {
+    row(rt, 2)?;
+    row(rt, 3)?;
+    row(rt, 4)?;
+    row(rt, 5)?;
+    row(rt, 6)?;
+    row(rt, 7)?;
+    row(rt, 8)?;
+    row(rt, 9)?;
+    row(rt, 10)
 }
 
-fn main() {
-    let mut text = io::large_buffer();
-    let n = io::read_full(STDIN_FILENO, &mut text);
-    joints(&text[..n]);
-    table_13_2();
+fn main(rt: HostRuntime) -> io::Result<()> {
+    let mut text = Vec::new(rt.alloc());
+    rt.stdin().take(MOST_BYTES).read_to_end(&mut text)?;
+    joints(&rt, text.as_slice())?;
+    table_13_2(&rt)
 }

@@ -1,12 +1,11 @@
 // Runs the strength of shear planes whose figures are known: joint B of 01, Example 13-1 of 001, and planes worked out by hand.
 #![tactic(auto)]
 
-use libc::STDOUT_FILENO;
+use std::io;
 use strength::plane::{Plane, Timber};
 
-fn show(n: u64) {
-    io::print_decimal(STDOUT_FILENO, n);
-    io::write_all(STDOUT_FILENO, b"\n");
+fn show(rt: &impl Print, n: u64) -> io::Result<()> {
+    println!(rt; "{n}")
 }
 
 // Joint B: C24, d 12, S235, t1 60 mm, t2 80 mm, force along the grain: 7,441.033 N.
@@ -124,11 +123,11 @@ fn rational_third() -> u64 {
     })
 }
 
-fn main() {
-    show(joint_b());
-    show(joint_b_thin());
-    show(strength::moment::yield_moment(16, 360));
-    show(example());
-    show(rational_second());
-    show(rational_third());
+fn main(rt: HostRuntime) -> io::Result<()> {
+    show(&rt, joint_b())?;
+    show(&rt, joint_b_thin())?;
+    show(&rt, strength::moment::yield_moment(16, 360))?;
+    show(&rt, example())?;
+    show(&rt, rational_second())?;
+    show(&rt, rational_third())
 }

@@ -1,19 +1,20 @@
 -- Laws of a table's entries: the next one from a byte on, for the loops over them.
-use Prim.Native.Nat.{ℕ, zero, suc, ◌+◌, ◌*◌, ◌≤◌, ◌<◌}
+use Prim.Native.Nat.{ℕ, suc, ◌+◌, ◌≤◌, ◌<◌}
 use native.Mathlib.Nat.{add-zero}
 use native.Mathlib.Omega.{arith}
 use mathlib.Core.Path.{◌≡◌, refl, sym, ap, ◌∙◌}
-use mathlib.Core.Bool.{Bool, true, false, cond, not, ◌&&◌, ◌||◌, false≢true}
+use mathlib.Core.Bool.{Bool, true, false, not, ◌&&◌, ◌||◌, false≢true}
 use mathlib.Core.List.{List, [], ◌∷◌, map}
 use borrow.Author.Tests.{eq-eqb, ne_eqb, leb-true, leb-false, lt-ltb, le-ltb}
-use lib.Dec.{ltb, leb, eqb}
+use lib.Dec.{ltb, leb}
 use lib.ListN.{length, get_or, drop, length-drop}
 use lib.Seq.{drop-cons}
 use Rattle.codes.specs.declared.Class.{Class}
 use Rattle.codes.specs.declared.Class.TheVariants.{Unknown}
-use Rattle.codes.specs.Tables.{lookup, class_in}
+use Rattle.codes.specs.Tables.{lookup}
+use Rattle.tables.specs.Classes.{class_in}
 use Rattle.tables.specs.declared.Entry.{Entry}
-use Rattle.tables.specs.Table.{entry_at, entries_in, entries_of, entry_within, rise, class_of, line_of, own_table}
+use Rattle.tables.specs.Table.{entry_at, entries_in, entry_within, rise, class_of, line_of, own_table}
 
 step : (b : List ℕ) (i j : ℕ) → j ≡ i + 1 → i < length b → drop i b ≡ get_or b i 0 ∷ drop j b
 step b i j e h =

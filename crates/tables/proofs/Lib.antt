@@ -2,3 +2,4 @@
 pub mod Entries
 pub mod Loading
 pub mod Same
+pub mod Woods

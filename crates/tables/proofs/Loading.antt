@@ -1,7 +1,7 @@
 -- What loading finds, test by test; and what is known of a table that loads.
-use Prim.Native.Nat.{ℕ, ◌+◌, ◌%◌, ◌≤◌, ◌<◌}
-use mathlib.Core.Path.{◌≡◌, refl, sym, ap, ◌∙◌}
-use mathlib.Core.Bool.{Bool, true, false, cond, not, ◌&&◌, and-eq-true_iff, false≢true}
+use Prim.Native.Nat.{ℕ, ◌%◌, ◌≤◌, ◌<◌}
+use mathlib.Core.Path.{◌≡◌, refl, sym, ◌∙◌}
+use mathlib.Core.Bool.{Bool, true, false, cond, not, and-eq-true_iff}
 use mathlib.Core.List.{List, [], ◌∷◌, map}
 use mathlib.Core.Logic.{◌⊎◌, inl, inr}
 use native.Mathlib.Omega.{arith}
@@ -9,10 +9,11 @@ use borrow.Author.Tests.{lt-ltb, le-ltb, eq-eqb, ne_eqb, not-true, not-false}
 use lib.Dec.{eqb}
 use lib.ListN.{length, replicate}
 use Rattle.numbers.specs.Numbers.{u16_at}
-use Rattle.chain.specs.Chain.{chained, Read}
+use Rattle.chain.specs.Chain.{Read}
 use Rattle.chain.specs.declared.Width.TheVariants.{Two}
-use Rattle.codes.specs.Tables.{softwood, hardwood, Sound}
-use Rattle.codes.proofs.Woods.{line_test, lines_pass, sound, printed_sound}
+use Rattle.codes.specs.Tables.{softwood, hardwood}
+use Rattle.tables.specs.Classes.{Sound}
+use Rattle.tables.proofs.Woods.{line_test, lines_pass, sound, printed_sound}
 use Rattle.tables.specs.declared.Entry.{Entry}
 use Rattle.tables.specs.declared.Source.{Source}
 use Rattle.tables.specs.declared.Source.TheVariants.{Printed, Own}

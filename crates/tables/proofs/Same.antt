@@ -1,5 +1,5 @@
 -- Tables that are alike; the printed table in a firm's layout is one.
-use mathlib.Core.Path.{◌≡◌, refl}
+use mathlib.Core.Path.{refl}
 use Rattle.chain.specs.Chain.{number_at, bound, all_follow, chained}
 use Rattle.codes.specs.Tables.{printed_classes}
 use Rattle.tables.specs.Tests.{first_holding}

@@ -1,3 +1,4 @@
 -- What the contracts of `tables` speak of.
 pub mod Tests
+pub mod Classes
 pub mod Table

@@ -1,11 +1,12 @@
 -- The table by which the classes of a record are read: the printed one, or a firm's own (02, A4). A firm's is the list of its bytes.
-use Rattle.std.specs.Prelude.{ℕ, ◌+◌, ◌*◌, ◌%◌, ◌≡◌, Bool, true, cond, not, ◌&&◌, ◌||◌, List, [], ◌∷◌, ◌++◌, map, ltb, leb, eqb, pos, length, drop}
+use Rattle.std.specs.Prelude.{ℕ, ◌%◌, ◌≡◌, Bool, true, cond, not, ◌&&◌, ◌||◌, List, [], ◌∷◌, ◌++◌, map, ltb, leb, eqb, pos, length, drop}
 use Rattle.numbers.specs.Fields.{Width, size, place, field, field_bytes}
 use Rattle.numbers.specs.Fields.Width.{U8, U16}
 use Rattle.codes.specs.declared.Class.{Class}
 use Rattle.codes.specs.declared.Kind.{Kind}
 use Rattle.codes.specs.declared.Kind.TheVariants.{Softwood, Hardwood}
-use Rattle.codes.specs.Tables.{Line, line, softwood, hardwood, printed_classes, class_in, is_known, wood_in}
+use Rattle.codes.specs.Tables.{Line, line, softwood, hardwood, printed_classes, is_known, wood_in}
+use Rattle.tables.specs.Classes.{class_in}
 use Rattle.codes.specs.declared.Wood.{Wood}
 use Rattle.chain.specs.Chain.{chained}
 use Rattle.chain.specs.declared.Width.TheVariants.{Two}

@@ -3,11 +3,12 @@
 #![tactic(auto)]
 
 ghost use Rattle.std.specs.Prelude.{◌≡◌, not, ◌+◌, ◌≤◌, length};
-ghost use Rattle.codes.specs.Tables.{class_in};
+ghost use Rattle.tables.specs.Classes.{class_in};
+ghost use Rattle.codes.specs.Tables.{softwood, hardwood};
 ghost use Rattle.tables.specs.Table.{entries_of, entry_at, entry_within, rise, refusal14, class_of, own_table, table_of, table_number};
 
 use chain::Width;
-use codes::{Class, hardwood, softwood};
+use codes::{Class, Kind, Wood};
 use numbers::u16_at;
 
 // The numbers of a table's refusals.
@@ -38,14 +39,14 @@ const LEAST_DENSITY: u16 = 290;
 const MOST_DENSITY: u16 = 1100;
 
 // Which table a call uses. The bytes that it hands in for it are looked at where they are the firm's own.
-#[derive(Drop)]
+#[derive(Clone, Copy)]
 pub enum Source {
     Printed,
     Own,
 }
 
 // Kind 0 is softwood, 1 hardwood; density in kg/m³.
-#[derive(Drop)]
+#[derive(Clone, Copy)]
 struct Entry {
     pub code: u8,
     pub kind: u8,
@@ -122,6 +123,24 @@ pub fn load(table: &[u8]) -> u8
         return ENTRY_OUTSIDE;
     }
     0
+}
+
+fn softwood(density: u64) -> Class
+    ensures { result ≡ softwood density }
+{
+    Class::Known(Wood {
+        kind: Kind::Softwood,
+        density,
+    })
+}
+
+fn hardwood(density: u64) -> Class
+    ensures { result ≡ hardwood density }
+{
+    Class::Known(Wood {
+        kind: Kind::Hardwood,
+        density,
+    })
 }
 
 fn class_of_entry(e: Entry) -> Class

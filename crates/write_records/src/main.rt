@@ -5,11 +5,13 @@
 
 ghost use Rattle.std.specs.Prelude.{◌≤◌};
 
-use libc::STDOUT_FILENO;
 use numbers::{i32_at, u32_at};
+use std::fs::File;
+use std::io::Read;
+use std::{env, io};
 
 // Longer than any file that it is run on.
-const LONGEST: usize = 4096;
+const LONGEST: u64 = 4096;
 
 // The word `case`, as a number.
 const CASE: i32 = 1702060387;
@@ -74,22 +76,22 @@ fn list_at(bytes: &[u8], k: usize) -> [i32; MOST]
     l
 }
 
-fn write_number(n: u64) {
-    io::write_all(STDOUT_FILENO, b" ");
-    io::print_decimal(STDOUT_FILENO, n);
+fn write_number(rt: &HostRuntime, n: u64) -> io::Result<()> {
+    print!(rt; " {n}")
 }
 
-fn write_byte(n: u8) {
-    write_number(n as u64);
+fn write_byte(rt: &HostRuntime, n: u8) -> io::Result<()> {
+    write_number(rt, n as u64)
 }
 
-fn write_bytes(s: &[u8]) {
-    io::write_all(STDOUT_FILENO, b" :");
+fn write_bytes(rt: &HostRuntime, s: &[u8]) -> io::Result<()> {
+    print!(rt; " :")?;
     let mut i = 0;
     while i < s.len() {
-        write_byte(s[i]);
+        write_byte(rt, s[i])?;
         i += 1;
     }
+    Ok(())
 }
 
 // The first n numbers of a list, or all.
@@ -99,63 +101,89 @@ fn first(l: &[i32], n: usize) -> &[i32] {
 
 // What came back, the answer, and the buffer.
 fn write_values(
+    rt: &HostRuntime,
     fields: &[i32],
     x: &[i32],
     y: &[i32],
     marks: &[i32],
     buffer: &mut [u8],
     answer: &mut [u64],
-) {
+) -> io::Result<()> {
     let code = negwishal::negwishal_write(fields, x, y, marks, buffer, answer);
-    write_number(code as u64);
+    write_number(rt, code as u64)?;
     let mut i = 0;
     while i < answer.len() {
-        write_number(answer[i]);
+        write_number(rt, answer[i])?;
         i += 1;
     }
-    write_bytes(buffer);
+    write_bytes(rt, buffer)
 }
 
 // Writes into the first `room` bytes of a buffer that holds 170 everywhere; the answer has two numbers more than it needs.
-fn write_into(fields: &[i32], x: &[i32], y: &[i32], marks: &[i32], buffer: &mut [u8], room: usize) {
+fn write_into(
+    rt: &HostRuntime,
+    fields: &[i32],
+    x: &[i32],
+    y: &[i32],
+    marks: &[i32],
+    buffer: &mut [u8],
+    room: usize,
+) -> io::Result<()> {
     if buffer.len() < room {
-        return;
+        return Ok(());
     }
     let mut answer = [7u64; 4];
-    write_values(fields, x, y, marks, &mut buffer[..room], &mut answer);
+    write_values(rt, fields, x, y, marks, &mut buffer[..room], &mut answer)
 }
 
-fn write_lists(fields: &[i32], x: &[i32], y: &[i32], marks: &[i32], room: usize) {
+fn write_lists(
+    rt: &HostRuntime,
+    fields: &[i32],
+    x: &[i32],
+    y: &[i32],
+    marks: &[i32],
+    room: usize,
+) -> io::Result<()> {
     let mut buffer = [170u8; MOST_BYTES];
-    write_into(fields, x, y, marks, &mut buffer, room);
+    write_into(rt, fields, x, y, marks, &mut buffer, room)
 }
 
-fn run_case(bytes: &[u8]) {
+fn run_case(rt: &HostRuntime, bytes: &[u8]) -> io::Result<()> {
     let fields = list_at(bytes, FIELDS);
     let x = list_at(bytes, X);
     let y = list_at(bytes, Y);
     let marks = list_at(bytes, MARKS);
     write_lists(
+        rt,
         first(&fields, length_at(bytes, FIELDS_LENGTH, MOST)),
         first(&x, length_at(bytes, X_LENGTH, MOST)),
         first(&y, length_at(bytes, Y_LENGTH, MOST)),
         first(&marks, length_at(bytes, MARKS_LENGTH, MOST)),
         length_at(bytes, ROOM, MOST_BYTES),
-    );
+    )
 }
 
-fn write_again(fields: &[i32], x: &[i32], y: &[i32], marks: &[i32], n: u64, room: usize) {
+fn write_again(
+    rt: &HostRuntime,
+    fields: &[i32],
+    x: &[i32],
+    y: &[i32],
+    marks: &[i32],
+    n: u64,
+    room: usize,
+) -> io::Result<()> {
     let dowels = n as usize;
     write_lists(
+        rt,
         fields,
         first(x, dowels),
         first(y, dowels),
         first(marks, dowels),
         room,
-    );
+    )
 }
 
-fn run_record(bytes: &[u8]) {
+fn run_record(rt: &HostRuntime, bytes: &[u8]) -> io::Result<()> {
     let mut fields = [0i32; 27];
     let mut x = [0i32; 64];
     let mut y = [0i32; 64];
@@ -171,46 +199,47 @@ fn run_record(bytes: &[u8]) {
     );
     let number = answer[0];
     let n = answer[1];
-    write_number(code as u64);
-    write_number(number);
-    write_number(n);
+    write_number(rt, code as u64)?;
+    write_number(rt, number)?;
+    write_number(rt, n)?;
     if number == 0 {
-        write_again(&fields, &x, &y, &marks, n, bytes.len());
+        return write_again(rt, &fields, &x, &y, &marks, n, bytes.len());
     }
+    Ok(())
 }
 
-// The file named by argument i; false where there is none.
-fn run_file(i: usize) -> bool {
-    let mut path = io::buffer();
-    let length = os::arg(i, &mut path);
-    if os::errno() != 0 {
-        return false;
-    }
-    let fd = os::open_read(&path[..length]);
-    if fd < 0 {
-        os::fail(&path[..length]);
-        return false;
-    }
-    let mut bytes = [0u8; LONGEST];
-    let n = io::read_full(fd, &mut bytes);
-    libc::close(fd);
-    io::write_all(STDOUT_FILENO, &path[..length]);
-    io::write_all(STDOUT_FILENO, b":");
-    if number_at(&bytes[..n], 0) == CASE {
-        run_case(&bytes[..n]);
-    } else {
-        run_record(&bytes[..n]);
-    }
-    io::write_all(STDOUT_FILENO, b"\n");
-    true
+// At most LONGEST bytes of a file.
+fn contents(rt: &HostRuntime, path: &str) -> io::Result<Vec<u8>> {
+    let mut bytes = Vec::new(rt.alloc());
+    File::open(rt, path)?.take(LONGEST).read_to_end(&mut bytes)?;
+    Ok(bytes)
 }
 
-fn main() {
-    let mut i: usize = 1;
-    while i < 1000 {
-        if !run_file(i) {
-            return;
+// The file of that name; false where it cannot be read.
+fn run_file(rt: &HostRuntime, path: &str) -> io::Result<bool> {
+    let all = match contents(rt, path) {
+        Ok(bytes) => bytes,
+        Err(error) => {
+            failure::fail(rt, path, error);
+            return Ok(false);
         }
-        i += 1;
+    };
+    let bytes = all.as_slice();
+    print!(rt; "{path}:")?;
+    if number_at(bytes, 0) == CASE {
+        run_case(rt, bytes)?;
+    } else {
+        run_record(rt, bytes)?;
     }
+    println!(rt; "")?;
+    Ok(true)
+}
+
+fn main(rt: HostRuntime) -> io::Result<()> {
+    for path in env::args(&rt)?.skip(1) {
+        if !run_file(&rt, path.as_str())? {
+            return Ok(());
+        }
+    }
+    Ok(())
 }

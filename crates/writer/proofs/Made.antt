@@ -1,5 +1,5 @@
 -- Four parts put together as a record: its header, its pairs and its parts read as they were.
-use Prim.Native.Nat.{ℕ, ◌+◌, ◌*◌, ◌-◌, ◌/◌, ◌%◌, ◌≤◌, ◌<◌}
+use Prim.Native.Nat.{ℕ, ◌+◌, ◌/◌, ◌%◌, ◌<◌}
 use mathlib.Core.Path.{◌≡◌, refl, sym, ap, ◌∙◌}
 use mathlib.Core.List.{List, [], ◌∷◌, ◌++◌}
 use mathlib.Core.Bool.{Bool, true, false, not, ◌&&◌}
@@ -11,7 +11,6 @@ use lib.Seq.{drop-drop, drop-append_seam, take-append_seam}
 use Rattle.numbers.specs.Numbers.{u8_at}
 use Rattle.numbers.proofs.Bytes.{u16_back}
 use Rattle.chain.specs.Chain.{number_at, continues, bound, all_follow, chained}
-use Rattle.joint.specs.declared.Values.{Values}
 use Rattle.joint.specs.Layout.{version, pair_count, pair_offset, pair_length, part_of_pair, kind_of_pair, pair_of_kind, part_of_kind, pairs_bytes, joined}
 use Rattle.joint.specs.Refusal.{refusal4, refusal5, one_if, once}
 

@@ -1,6 +1,6 @@
 -- What the writer promises, over the definitions: it writes what passes its tests; what it wrote passes 1 to 9 and reads back; a record
 -- read and written again reads alike; the buffer's old bytes play no part.
-use Prim.Native.Nat.{ℕ, ◌+◌, ◌*◌, ◌≤◌, ◌<◌}
+use Prim.Native.Nat.{ℕ, ◌+◌, ◌*◌, ◌≤◌}
 use mathlib.Core.Path.{◌≡◌, refl, sym, ap, ◌∙◌}
 use mathlib.Core.List.{List, [], ◌∷◌, ◌++◌}
 use mathlib.Core.Bool.{Bool, true, false, not, ◌&&◌, false≢true, and-eq-true_iff}
@@ -11,7 +11,6 @@ use lib.ListN.{length, get_or, take, drop}
 use lib.Seq.{take-append_seam, length-take-le, get_or-take}
 use lib.IntN.{ℤ, pos, negsuc, nat_abs}
 use Rattle.codes.specs.Tables.{is_version}
-use Rattle.joint.specs.declared.Positions.{Positions}
 use Rattle.joint.specs.declared.Values.{Values}
 use Rattle.joint.specs.Layout.{part_of_kind, position_field, column, positions_in, bytes_of, values_of}
 use Rattle.joint.specs.Refusal.{refusal2, refusal4, refusal5, refusal6, empty_outlines, no_force, fields_within}
@@ -21,7 +20,6 @@ use Rattle.joint.proofs.Accepted.{fields_hold}
 use Rattle.joint.proofs.Columns.{column_length, column_same}
 use Rattle.writer.specs.declared.MemberFields.{MemberFields}
 use Rattle.writer.specs.declared.Fields.{Fields}
-use Rattle.writer.specs.declared.Written.{Written}
 use Rattle.writer.specs.Write.{member_from, placed, values_from, is_unsigned, version_unknown, member_unsigned, fields_unsigned, lists_alike}
 use Rattle.writer.specs.Write.{handed_tests, writer_tests, writer_number, written_of, buffer_after, record_made}
 use Rattle.writer.specs.Read.{member_to, fields_of, marks_of, normal_member, normal, x_of, y_of, ReadsBack}

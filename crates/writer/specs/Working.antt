@@ -1,5 +1,5 @@
 -- Nobody needs to believe this: what the writer's steps hand to one another. `write` is equal to `written_of` and `buffer_after`.
-use Rattle.std.specs.Prelude.{◌+◌, ◌*◌, ◌≤◌, ◌≡◌, List, Bool, true, ◌&&◌, ℤ, pos}
+use Rattle.std.specs.Prelude.{◌≡◌, Bool, true, ◌&&◌, ℤ, pos}
 use Rattle.numbers.specs.Numbers.{between_z}
 use Rattle.writer.specs.declared.MemberFields.{MemberFields}
 use Rattle.writer.specs.declared.Fields.{Fields}

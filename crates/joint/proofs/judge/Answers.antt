@@ -1,3 +1,4 @@
+-- What it makes is the report, and the report meets the claim.
 use mathlib.Core.Path.{◌∙◌, ap, sym, subst⁻¹}
 use Rattle.joint.specs.Claim.{Accepted}
 use Rattle.joint.specs.Returned.{answered, unanswered, Passed}
@@ -5,8 +6,8 @@ use Rattle.joint.proofs.Claims.{accepted_passed, judged, report_accepted, report
 use Rattle.joint.proofs.judge.Goals as goal
 
 pub returns-then-outcome-ne0 : goal.returns-then-outcome-ne0
-unfolding unanswered 
-returns-then-outcome-ne0 c =     let n = outcome_number _ _ c.refusal-outcome.ensures in
+unfolding unanswered
+returns-then-outcome-ne0 c = let n = outcome_number _ _ c.refusal-outcome.ensures in
     judged (outcome_refused _ _ c.refusal-outcome.ensures ∙ report_refused _ (λ h. c.if-outcome-ne0.true (n ∙ h)))
 
 pub answer-requires : goal.answer-requires

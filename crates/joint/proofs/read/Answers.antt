@@ -1,4 +1,4 @@
-use borrow.Author.Rules.{rules}
+-- By what the stages of reading answered.
 use Rattle.joint.proofs.Faults.{refused_layout, refused_values, read_whole}
 use Rattle.joint.proofs.Stages.{laid_out}
 use Rattle.joint.proofs.read.Goals as goal

@@ -1,4 +1,4 @@
-use borrow.Author.Rules.{rules}
+-- By what reading answered and the drill plan's first fault.
 use Rattle.joint.proofs.Faults.{drill_given, refused_reading, refused_drill, accepted}
 use Rattle.joint.proofs.refusal.Goals as goal
 

@@ -1,4 +1,3 @@
-use borrow.Author.Rules.{rules}
 use mathlib.Core.Path.{◌∙◌}
 use Rattle.joint.proofs.Stages.{stage_number_lem}
 use Rattle.joint.proofs.refusal_of_values.Goals as goal

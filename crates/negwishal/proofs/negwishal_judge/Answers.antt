@@ -1,7 +1,6 @@
+-- Eight stores from place 0 on.
 use native.Mathlib.Omega.{arith}
-use borrow.Author.Rules.{rules}
-use lib.ListN.{length-set}
-use Rattle.negwishal.proofs.Laws.{too_short, stored}
+use Rattle.negwishal.proofs.Laws.{too_short}
 use Rattle.negwishal.proofs.negwishal_judge.Goals as goal
 
 pub returns-then-out-lt-FIELDS : goal.returns-then-out-lt-FIELDS

@@ -1,3 +1,4 @@
+-- Below 0 the distance from -1 has no sign and fits; from 0 on the number is its own bits.
 use Prim.Native.Nat.{◌<◌}
 use borrow.Author.Rules.{rules}
 use lib.IntN.{ℤ, pos, negsuc, ◌-ℤ◌}
@@ -6,7 +7,6 @@ use lib.Signed.{mag, lt_z}
 use mathlib.Core.Path.{◌≡◌, ◌∙◌}
 use mir.Syntax.{w32}
 use mir.Val.{SFits, of_z, to_z}
-use native.Mathlib.Omega.{arith}
 use Rattle.numbers.proofs.Complement.{Below, below, Above, above}
 use Rattle.numbers.proofs.complement_of.Goals as goal
 
@@ -19,6 +19,7 @@ record Low (z : ℤ) : Type 0 where
   pub rest : to_z w32 (of_z w32 (negsuc 0 -ℤ to_z w32 (of_z w32 z))) ≡ pos (mag z)
   pub low : Below z
   pub small : mag z < 2147483648
+
 low : (z : ℤ) → SFits w32 z → lt_z (to_z w32 (of_z w32 z)) (pos 0) ≡ true → Low z
 low z f test =
     let b = same z f in

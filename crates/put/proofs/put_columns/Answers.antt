@@ -1,4 +1,4 @@
-use Prim.Native.Nat.{◌-◌, ◌≤◌}
+-- The dowels put so far are a run, to which the next one is added.
 use borrow.Author.Rules.{rules}
 use lib.IntN.{pos}
 use lib.ListN.{get_or}
@@ -7,20 +7,19 @@ use mathlib.Core.Path.{◌≡◌, refl}
 use mir.Syntax.{w32}
 use mir.Val.{of_z, to_z}
 use native.Mathlib.Numerals.{add-one}
-use native.Mathlib.Omega.{arith}
 use Rattle.numbers.specs.Fields.{field_bytes}
-use Rattle.numbers.proofs.Bytes.{Stored, next, long}
+use Rattle.numbers.proofs.Bytes.{next}
 use Rattle.joint.specs.Layout.{position_fields, columns_bytes}
 use Rattle.put.proofs.Lengths.{columns_length}
 use Rattle.put.proofs.put_columns.Goals as goal
 
 pub loop-i-init : goal.loop-i-init
-unfolding columns_bytes 
+unfolding columns_bytes
 loop-i-init c = (search rules, record { is = refl })
 
 pub loop-i-preserved : goal.loop-i-preserved
-unfolding columns_bytes 
-loop-i-preserved c =     let a = c.args in
+unfolding columns_bytes
+loop-i-preserved c = let a = c.args in
     let i = c.loop-i.i in
     let x : to_z w32 (of_z w32 (get_or a.x i (pos 0))) ≡ get_or a.x i (pos 0) = search rules in
     let y : to_z w32 (of_z w32 (get_or a.y i (pos 0))) ≡ get_or a.y i (pos 0) = search rules in

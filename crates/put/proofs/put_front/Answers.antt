@@ -1,5 +1,5 @@
+-- Each pair is put right after the one before.
 use Prim.Native.Nat.{ℕ, ◌+◌, ◌*◌}
-use borrow.Author.Rules.{rules}
 use lib.IntN.{pos}
 use mathlib.Core.List.{List, [], ◌∷◌}
 use mathlib.Core.Path.{refl}
@@ -13,8 +13,8 @@ abbrev pair : ℕ → ℕ → List ℕ
 pair n m = field_bytes pair_fields (pos n ∷ pos m ∷ [])
 
 pub returns : goal.returns
-unfolding front_bytes pairs_bytes 
-returns c =     let a = c.args in
+unfolding front_bytes pairs_bytes
+returns c = let a = c.args in
     let bytes = 2 + 8 * a.n in
     let header = first a.s.now 0 (pair a.version 4) c.put_pair.ensures in
     let members = next header (pair 20 42) refl c.put_pair-2.ensures in

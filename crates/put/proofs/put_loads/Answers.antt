@@ -1,18 +1,17 @@
+-- Three bytes, and the force right after them.
 use borrow.Author.Rules.{rules}
-use lib.ListN.{length-set}
 use mathlib.Core.List.{[], ◌∷◌}
-use mathlib.Core.Path.{◌≡◌, ◌∙◌, refl}
+use mathlib.Core.Path.{◌≡◌, refl}
 use mir.Syntax.{w32}
 use mir.Val.{of_z, to_z}
-use native.Mathlib.Omega.{arith}
 use Rattle.numbers.specs.Fields.{field_bytes}
 use Rattle.numbers.proofs.Bytes.{first, next}
 use Rattle.joint.specs.Layout.{position_fields, loads_bytes}
 use Rattle.put.proofs.put_loads.Goals as goal
 
 pub returns : goal.returns
-unfolding loads_bytes 
-returns c =     let a = c.args in
+unfolding loads_bytes
+returns c = let a = c.args in
     let l = a.l in
     let x : to_z w32 (of_z w32 l.fx) ≡ l.fx = search rules in
     let y : to_z w32 (of_z w32 l.fy) ≡ l.fy = search rules in

@@ -1,8 +1,6 @@
-use borrow.Author.Rules.{rules}
-use lib.ListN.{length, length-set}
+-- Two bytes, and right after them the thickness and the outline.
 use mathlib.Core.List.{[], ◌∷◌}
-use mathlib.Core.Path.{◌≡◌, ◌∙◌, refl}
-use native.Mathlib.Omega.{arith}
+use mathlib.Core.Path.{refl}
 use Rattle.numbers.specs.Fields.{field_bytes}
 use Rattle.numbers.specs.Numbers.{u16_bytes}
 use Rattle.numbers.proofs.Bytes.{first, next}
@@ -11,8 +9,8 @@ use Rattle.put.specs.Front.{outline_fields}
 use Rattle.put.proofs.put_member.Goals as goal
 
 pub returns : goal.returns
-unfolding member_bytes 
-returns c =     let a = c.args in
+unfolding member_bytes
+returns c = let a = c.args in
     let m = a.m in
     let o = m.outline in
     let front = next (first a.s.now a.at (m.class ∷ []) refl) (m.grain ∷ []) refl refl in

@@ -1,4 +1,4 @@
-use borrow.Author.Rules.{rules}
+-- Members whose grains agree have the same rows and the same force along.
 use Prim.Native.Nat.{ℕ}
 use mathlib.Core.Path.{◌≡◌}
 use mathlib.Core.List.{List}

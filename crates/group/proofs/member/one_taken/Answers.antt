@@ -1,4 +1,4 @@
-use borrow.Author.Rules.{rules}
+-- The view is the member's.
 use mathlib.Core.Path.{◌≡◌, ◌∙◌, subst}
 use Rattle.spacing.specs.declared.view.View.{View}
 use Rattle.spacing.specs.Spacing.{view_of}

@@ -4,11 +4,10 @@ use lib.Dec.{leb}
 use native.Mathlib.Nat.{mul-le-mul, pow-le-pow_left, le_of_lt}
 use borrow.Author.Tests.{leb-true, leb-false}
 use Rattle.group.proofs.Shares.{first_decides, second_decides, some_factor}
-use borrow.Author.Rules.{rules}
 use Rattle.group.proofs.share.deciding.Goals as goal
 
 pub returns-then-worst-row : goal.returns-then-worst-row
-returns-then-worst-row c =     let n = c.if-row-worst.true in
+returns-then-worst-row c = let n = c.if-row-worst.true in
     record {
       some = c.requires.0;
       within = c.requires.1;

@@ -1,4 +1,4 @@
-use borrow.Author.Rules.{rules}
+-- The windows are seen in the dowels' order along, and the share that comes back lies in its bracket.
 use borrow.Kind.Array.{e_s_int, good_length}
 use mir.Syntax.{w32}
 use mathlib.Core.Path.{◌≡◌}

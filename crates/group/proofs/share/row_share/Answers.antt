@@ -1,4 +1,4 @@
-use borrow.Author.Rules.{rules}
+-- The whole passes, or the greatest share is bracketed between nothing and it.
 use borrow.Author.Tests.{leb-false}
 use mathlib.Core.Path.{sym, ◌∙◌}
 use native.Mathlib.Omega.{arith}
@@ -13,7 +13,7 @@ passes-requires c = let within : FactorWithin (value c.product-q.result) = rw c.
     (lit≤ tt, within)
 
 pub returns-then-passes : goal.returns-then-passes
-returns-then-passes c =     let t = row_tested _ _ _ 10000 _ _ c.product-q.ensures c.scaled-n.ensures in
+returns-then-passes c = let t = row_tested _ _ _ 10000 _ _ c.product-q.ensures c.scaled-n.ensures in
     greatest_here _ 10000 (sym t ∙ sym c.passes.ensures ∙ c.if-passes.true)
 
 pub greatest_between-requires : goal.greatest_between-requires
@@ -27,4 +27,4 @@ greatest_between-requires c = let within : FactorWithin (value c.product-q.resul
     }
 
 pub returns : goal.returns
-returns c =     row_floor _ _ _ _ _ _ _ c.product-q.ensures c.scaled-n.ensures c.greatest_between.ensures
+returns c = row_floor _ _ _ _ _ _ _ c.product-q.ensures c.scaled-n.ensures c.greatest_between.ensures

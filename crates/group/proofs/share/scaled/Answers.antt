@@ -1,3 +1,4 @@
+-- The product has 355 bits.
 use mathlib.Core.Path.{◌≡◌, ap₂, ◌∙◌}
 use Prim.Native.Nat.{◌*◌, ◌^◌}
 use native.Mathlib.Omega.{arith}
@@ -5,7 +6,6 @@ use Rattle.wide.specs.Natural.{value}
 use Rattle.wide.proofs.Bits.{product_bits}
 use Rattle.strength.proofs.Room.{room, made}
 use Rattle.group.proofs.Sizes.{distance5, fifth, units_are, units_bits}
-use borrow.Author.Rules.{rules}
 use Rattle.group.proofs.share.scaled.Goals as goal
 
 pub multiply_add-requires : goal.multiply_add-requires

@@ -1,13 +1,13 @@
+-- The loop's invariant: the row kept passes the shares that the windows passed all pass.
 use borrow.Author.Rules.{rules}
 use mathlib.Core.Path.{◌≡◌, sym, ap, ◌∙◌}
 use mathlib.Core.Bool.{Bool, true, not, and-eq-true_iff}
 use mathlib.Core.List.{List}
-use mathlib.Core.Logic.{⊎_elim}
 use Prim.Native.Nat.{ℕ, ◌+◌, ◌-◌, ◌≤◌, ◌<◌}
 use native.Mathlib.Omega.{arith}
 use lib.Dec.{eqb, lit≤}
 use lib.IntN.{ℤ}
-use borrow.Author.Tests.{not-true, not-false, eqb-true, eqb-false}
+use borrow.Author.Tests.{not-true, eqb-true, eqb-false}
 use mir.Syntax.{w32}
 use mir.Val.{SFits, to_z, of_z}
 use mir.Facts.{to_z-of_z}
@@ -61,7 +61,7 @@ module _ (reach : ℕ) (a b : List ℤ) (count : ℕ) (starts : List ℤ) (i : �
       }
 
 pub loop-i-init : goal.loop-i-init
-unfolding all_to 
+unfolding all_to
 loop-i-init c = (
   omega arith,
   record {
@@ -72,25 +72,25 @@ loop-i-init c = (
 )
 
 pub deciding-worst-requires : goal.deciding-worst-requires
-deciding-worst-requires c =     let k = c.args in
+deciding-worst-requires c = let k = c.args in
     let w = c.loop-i.invariant.1 in
     let from = to_z w32 (of_z w32 (place k.starts.now c.loop-i.i)) in
     (w.some, w.within, rw c.window_from.ensures (seen_holds k.a.now k.b.now k.count k.reach from c.requires))
 
 pub loop-i-preserved : goal.loop-i-preserved
-loop-i-preserved c =     let k = c.args in
+loop-i-preserved c = let k = c.args in
     let i = c.loop-i.i in
     let w = c.loop-i.invariant.1 in (
       omega arith,
       elim c.if-not-same_start.branch [
-        then-not-same_start s ↦
-          let start : SFits w32 (place k.starts.now i) = search rules in
-          rw s.worst-is
-          (one_more k.reach k.a.now k.b.now k.count k.starts.now i c.loop-i.worst w _
-          (rw (s.window_from.ensures, to_z-of_z start) at s.deciding-worst.ensures))
-      | else-not-same_start s ↦
-          rw s.worst-is
-          (once_more k.reach k.a.now k.b.now k.count k.starts.now i c.loop-i.worst w
-          (sym c.same_start.ensures ∙ s.if-not-same_start.false))
+        | then-not-same_start s ↦
+            let start : SFits w32 (place k.starts.now i) = search rules in
+            rw s.worst-is
+            (one_more k.reach k.a.now k.b.now k.count k.starts.now i c.loop-i.worst w _
+            (rw (s.window_from.ensures, to_z-of_z start) at s.deciding-worst.ensures))
+        | else-not-same_start s ↦
+            rw s.worst-is
+            (once_more k.reach k.a.now k.b.now k.count k.starts.now i c.loop-i.worst w
+            (sym c.same_start.ensures ∙ s.if-not-same_start.false))
       ],
     )

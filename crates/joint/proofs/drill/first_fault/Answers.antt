@@ -1,4 +1,4 @@
-use borrow.Author.Rules.{rules}
+-- The verdict of crate `spacing` at the members and forces handed over.
 use mathlib.Core.Path.{◌≡◌, ◌∙◌}
 use mir.Syntax.{w32}
 use mir.Val.{of_z, to_z}
@@ -8,7 +8,7 @@ use Rattle.joint.specs.Refusal.{drill_fault}
 use Rattle.joint.proofs.drill.first_fault.Goals as goal
 
 pub returns : goal.returns
-unfolding drill_fault 
+unfolding drill_fault
 returns c = let read_x : to_z w32 (of_z w32 c.args.v.loads.fx) ≡ c.args.v.loads.fx = small_read c.args.v.loads.fx c.requires.force.x_small in
     let read_y : to_z w32 (of_z w32 c.args.v.loads.fy) ≡ c.args.v.loads.fy = small_read c.args.v.loads.fy c.requires.force.y_small in
     let v = c.args.v in

@@ -1,4 +1,4 @@
-use borrow.Author.Rules.{rules}
+-- The demand is the record's.
 use native.Mathlib.Omega.{arith}
 use mathlib.Core.Path.{◌≡◌, ◌∙◌, ap, ap₂, subst⁻¹}
 use Rattle.group.specs.declared.member.Both.{Both}
@@ -7,7 +7,7 @@ use Rattle.joint.proofs.Answers.{plane, within}
 use Rattle.joint.proofs.figures.answer.Goals as goal
 
 pub demand_of-requires : goal.demand_of-requires
-demand_of-requires c =     let w = within c.args.v c.requires in
+demand_of-requires c = let w = within c.args.v c.requires in
     let first = ap (λ (r : Both). r.member1.along) c.taken_of-taken.ensures in
     let second = ap (λ (r : Both). r.member2.along) c.taken_of-taken.ensures in (
       record {
@@ -27,7 +27,7 @@ report_of-requires c = let demand_is : c.demand_of.result ≡ demand_of c.args.v
     subst⁻¹ DemandWithin (demand_is) (within c.args.v c.requires)
 
 pub returns : goal.returns
-unfolding answered 
+unfolding answered
 returns c = let demand_is : c.demand_of.result ≡ demand_of c.args.v = let v = c.args.v in
     c.demand_of.ensures ∙ ap (demand_in v.members v.dowel v.loads v.positions.n) c.taken_of-taken.ensures in
     c.report_of.ensures ∙ ap₂ report_with (demand_is) (ap (λ (b : Both). b.share) c.taken_of-taken.ensures)

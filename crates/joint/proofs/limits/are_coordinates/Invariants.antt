@@ -1,14 +1,6 @@
 use Prim.Native.Nat.{◌-◌, ◌≤◌}
-use borrow.Author.Rules.{rules}
-use lib.IntN.{pos}
-use lib.ListN.{get_or}
 use mathlib.Core.Bool.{true}
-use mathlib.Core.Path.{◌≡◌, sym}
-use mir.Syntax.{w32}
-use mir.Val.{of_z, to_z}
-use native.Mathlib.Omega.{arith}
-use Rattle.joint.proofs.Columns.{coordinates_more, coordinates_none, coordinates_stop}
-use Rattle.joint.proofs.Tests.{failed, held}
+use mathlib.Core.Path.{◌≡◌}
 use Rattle.joint.specs.Refusal.{coordinates}
 use Rattle.joint.proofs.limits.are_coordinates.Given as goal
 

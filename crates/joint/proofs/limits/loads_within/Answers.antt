@@ -6,7 +6,7 @@ use Rattle.joint.specs.Refusal.{loads_within}
 use Rattle.joint.proofs.limits.loads_within.Goals as goal
 
 pub returns : goal.returns
-unfolding loads_within 
+unfolding loads_within
 returns c = let l = c.args.l in
     let x : to_z w32 (of_z w32 l.fx) ≡ l.fx = search rules in
     let y : to_z w32 (of_z w32 l.fy) ≡ l.fy = search rules in

@@ -6,7 +6,7 @@ use Rattle.joint.specs.Refusal.{outline_within, member_within}
 use Rattle.joint.proofs.limits.member_within.Goals as goal
 
 pub returns : goal.returns
-unfolding member_within outline_within 
+unfolding member_within outline_within
 returns c = let o = c.args.m.outline in
     let x0 : to_z w32 (of_z w32 o.x0) ≡ o.x0 = search rules in
     let y0 : to_z w32 (of_z w32 o.y0) ≡ o.y0 = search rules in

@@ -1,10 +1,9 @@
-use Prim.Native.Nat.{◌-◌, ◌≤◌}
+-- The places passed hold the definition's numbers; past place 64 nothing is kept.
 use borrow.Author.Rules.{rules}
 use mathlib.Core.Path.{◌∙◌, ◌≡◌, sym}
 use native.Mathlib.Omega.{arith}
 use Rattle.joint.proofs.Columns.{column_more, column_none, column_places}
 use Rattle.joint.proofs.Tests.{from_bits}
-use Rattle.joint.specs.Layout.{column}
 use Rattle.joint.specs.Stage.{eighths}
 use Rattle.joint.proofs.parts.column_of.Goals as goal
 

@@ -1,9 +1,5 @@
 use Prim.Native.Nat.{◌-◌, ◌≤◌}
-use borrow.Author.Rules.{rules}
-use mathlib.Core.Path.{◌∙◌, ◌≡◌, sym}
-use native.Mathlib.Omega.{arith}
-use Rattle.joint.proofs.Columns.{column_more, column_none, column_places}
-use Rattle.joint.proofs.Tests.{from_bits}
+use mathlib.Core.Path.{◌≡◌}
 use Rattle.joint.specs.Layout.{column}
 use Rattle.joint.specs.Stage.{eighths}
 use Rattle.joint.proofs.parts.column_of.Given as goal

@@ -1,11 +1,10 @@
-use borrow.Author.Rules.{rules}
 use native.Mathlib.Nat.{add-zero}
 use Rattle.joint.proofs.Tests.{from_bits}
 use Rattle.joint.specs.Layout.{member_at}
 use Rattle.joint.proofs.parts.member_at.Goals as goal
 
 pub returns : goal.returns
-unfolding member_at 
+unfolding member_at
 returns c = let x0 = c.i32_at in
     let y0 = c.i32_at-2 in
     let x1 = c.i32_at-3 in

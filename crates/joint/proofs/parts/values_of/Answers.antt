@@ -1,5 +1,4 @@
-use borrow.Author.Rules.{rules}
-use Rattle.joint.proofs.Stages.{part_has, positions_have, values_read}
+use Rattle.joint.proofs.Stages.{values_read}
 use Rattle.joint.proofs.parts.values_of.Goals as goal
 
 pub returns : goal.returns

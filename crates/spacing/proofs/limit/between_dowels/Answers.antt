@@ -1,5 +1,5 @@
+-- The limit is 30 d and the least part.
 use native.Mathlib.Omega.{arith}
-use borrow.Author.Rules.{rules}
 use Rattle.spacing.proofs.Limits.{squares, pair_limit, least_part_bound}
 use mathlib.Core.Path.{◌≡◌, ap, ◌∙◌}
 use mir.Facts.{to_z-of_z}

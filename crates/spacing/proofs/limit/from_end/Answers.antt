@@ -1,11 +1,10 @@
-use native.Mathlib.Omega.{arith}
-use borrow.Author.Rules.{rules}
+-- A loaded end asks the greater of two whole numbers, another one the greater of 30 d and the least part.
 use mathlib.Core.Path.{◌≡◌, ap, ◌∙◌}
 use mir.Facts.{to_z-of_z}
 use mir.Syntax.{w32}
 use mir.Val.{to_z, of_z}
 use Rattle.spacing.specs.Spacing.{square, squared_force}
-use Rattle.spacing.proofs.Limits.{squares, loaded_limit, other_limit}
+use Rattle.spacing.proofs.Limits.{loaded_limit, other_limit}
 use Rattle.spacing.proofs.limit.from_end.Goals as goal
 
 pub returns-then-loaded : goal.returns-then-loaded

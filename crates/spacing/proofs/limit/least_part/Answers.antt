@@ -1,9 +1,8 @@
-use borrow.Author.Rules.{rules}
-use native.Mathlib.Nat.{mul-le-mul}
+-- The root is rounded up.
 use native.Mathlib.Omega.{arith}
-use Rattle.spacing.proofs.Limits.{nothing, rounded_up, scale_fits, root_small}
+use Rattle.spacing.proofs.Limits.{rounded_up}
 use Rattle.spacing.proofs.limit.least_part.Goals as goal
 
 pub returns : goal.returns
-returns c =     let s = c.requires in
+returns c = let s = c.requires in
     record { decides = rounded_up _ _ _ s.force (omega arith) c.whole_square_root.ensures }

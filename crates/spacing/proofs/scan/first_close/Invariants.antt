@@ -1,15 +1,11 @@
-use borrow.Author.Rules.{rules}
-use borrow.Author.Tests.{lt-ltb, le-ltb}
-use mathlib.Core.Path.{◌≡◌, sym, ◌∙◌}
+use mathlib.Core.Path.{◌≡◌}
 use Prim.Native.Nat.{◌≤◌, ◌-◌}
-use native.Mathlib.Omega.{arith}
 use Rattle.spacing.specs.Search.{first_from, first_pair, has_partner}
 use Rattle.spacing.specs.Limits.{close_by}
-use Rattle.spacing.proofs.Search.{first_on, first_hit, first_end, first_start}
 use Rattle.spacing.proofs.scan.first_close.Given as goal
 
 abbrev pub invariant-loop-i : goal.invariant-loop-i
-invariant-loop-i l =     (l.i ≤ l.count)
+invariant-loop-i l = (l.i ≤ l.count)
     × (first_pair (close_by l.along l.across l.a l.b) l.count ≡ first_from (has_partner (close_by l.along l.across l.a l.b) l.count) l.i (l.count - l.i))
 
 abbrev pub decreases-loop-i : goal.decreases-loop-i

@@ -1,19 +1,19 @@
+-- The loop's invariant: the answer is the answer of what is left from j on.
 use borrow.Author.Rules.{rules}
 use mathlib.Core.Path.{◌≡◌, refl, sym, ap₂, ◌∙◌}
-use Prim.Native.Nat.{◌≤◌, ◌-◌}
 use native.Mathlib.Omega.{arith}
 use lib.IntN.{nat_abs, ◌-ℤ◌}
 use mir.Syntax.{w32}
 use mir.Val.{SFits}
 use mir.Facts.{to_z-of_z}
-use Rattle.spacing.specs.Search.{first_from, partner}
+use Rattle.spacing.specs.Search.{partner}
 use Rattle.spacing.specs.Spacing.{place}
 use Rattle.spacing.specs.Limits.{nearer_by, close_by}
 use Rattle.spacing.proofs.Search.{first_on, first_hit, first_end}
 use Rattle.spacing.proofs.scan.partner.Goals as goal
 
 pub loop-j-init : goal.loop-j-init
-unfolding partner 
+unfolding partner
 loop-j-init c = (omega arith, refl)
 
 pub returns-then-nearer : goal.returns-then-nearer
@@ -43,5 +43,5 @@ loop-j-preserved c = let answers : let k = c.args in let j = c.loop-j.j in c.nea
     (omega arith, c.loop-j.invariant.1 ∙ first_on _ c.loop-j.j _ (omega arith) (sym (answers) ∙ c.if-nearer.false))
 
 pub returns : goal.returns
-returns c =     let l = c.loop-j in
+returns c = let l = c.loop-j in
     sym (l.invariant.1 ∙ first_end _ l.j _ (omega arith))

@@ -10,7 +10,7 @@ use borrow.Author.Rules.{rules}
 use Rattle.spacing.proofs.verdict.edge_fault.Goals as goal
 
 pub returns : goal.returns
-returns c =     let v = c.args.v in
+returns c = let v = c.args.v in
     let l : SFits w32 v.left = search rules in
     let r : SFits w32 v.right = search rules in
     let d = c.args.d in

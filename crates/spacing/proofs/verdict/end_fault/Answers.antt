@@ -1,3 +1,4 @@
+-- The search by whole limits finds the end's fault.
 use borrow.Author.Rules.{rules}
 use mathlib.Core.Path.{◌≡◌}
 use mir.Syntax.{w32}

@@ -1,3 +1,4 @@
+-- The search by whole limits finds the first bad pair.
 use Prim.Native.Nat.{◌*◌}
 use mathlib.Core.Path.{◌≡◌, ◌∙◌}
 use Rattle.spacing.specs.Spacing.{too_close}
@@ -6,7 +7,6 @@ use Rattle.spacing.proofs.Integers.{small_read}
 use Rattle.spacing.proofs.Search.{partner_bound}
 use Rattle.spacing.proofs.Faults.{close_same, pair_found, no_pair}
 use native.Mathlib.Omega.{arith}
-use borrow.Author.Rules.{rules}
 use Rattle.spacing.proofs.verdict.pair_fault.Goals as goal
 
 pub returns-then-count-i : goal.returns-then-count-i

@@ -1,4 +1,5 @@
-use Rattle.std.proofs.Common.{◌≡◌, ℕ, ◌/◌, refl, rules}
+-- The thousandths rounded down bracket R in newtons.
+use Rattle.std.proofs.Common.{◌≡◌, ℕ, ◌/◌, refl}
 use Rattle.strength.specs.declared.plane.Plane.{Plane}
 use Rattle.strength.specs.Shear.{PlaneWithin}
 use Rattle.strength.specs.Figures.{Capacity}

@@ -1,27 +1,27 @@
-use Rattle.std.proofs.Common.{◌≡◌, ℕ, min, ap, ◌∙◌, lt_of_le_of_lt, lit<, rules}
+-- The figure is that of the definition, which brackets R.
+use Rattle.std.proofs.Common.{◌≡◌, ℕ, min, ap, ◌∙◌}
 use Rattle.strength.specs.declared.plane.Plane.{Plane}
 use Rattle.strength.specs.Shear.{PlaneWithin}
 use Rattle.strength.specs.Figures.{CapacityThousandths}
 use Rattle.strength.specs.Working.{capacity_of}
-use Rattle.strength.proofs.Sizes.{factor_bound}
 use Rattle.strength.proofs.Capacities.{capacity_low, capacity_high}
-use Rattle.strength.proofs.Joins.{force_fits, first_within, parted, force_1, force_2, gathered}
+use Rattle.strength.proofs.Joins.{first_within, parted, force_1, force_2, gathered}
 use Rattle.strength.proofs.capacity.capacity_thousandths.Goals as goal
 
 bracketed : (p : Plane) → PlaneWithin p → (r : ℕ) → r ≡ capacity_of p → CapacityThousandths p r
 bracketed p w r e = record { low = rw e (capacity_low p w); high = rw e (capacity_high p w); is = e }
 
 pub first-by_dowel-requires : goal.first-by_dowel-requires
-first-by_dowel-requires c =     first_within c.requires c.join-j.ensures c.yield_moment-m.ensures.is
+first-by_dowel-requires c = first_within c.requires c.join-j.ensures c.yield_moment-m.ensures.is
 
 pub second-by_side-requires : goal.second-by_side-requires
-second-by_side-requires c =     (force_1 c.requires c.join-j.ensures, parted c.requires c.join-j.ensures)
+second-by_side-requires c = (force_1 c.requires c.join-j.ensures, parted c.requires c.join-j.ensures)
 
 pub third-by_other-requires : goal.third-by_other-requires
-third-by_other-requires c =     (force_2 c.requires c.join-j.ensures, parted c.requires c.join-j.ensures)
+third-by_other-requires c = (force_2 c.requires c.join-j.ensures, parted c.requires c.join-j.ensures)
 
 pub returns : goal.returns
-returns c =     bracketed _ c.requires _
+returns c = bracketed _ c.requires _
     (gathered c.requires c.join-j.ensures _ _ _ _ _ c.yield_moment-m.ensures.is c.first-by_dowel.ensures
     c.second-by_side.ensures c.third-by_other.ensures
     (c.least-2.ensures ∙ ap (λ (z : ℕ). min z c.third-by_other.result) c.least.ensures))

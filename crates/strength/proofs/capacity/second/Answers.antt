@@ -1,6 +1,4 @@
-use Rattle.std.proofs.Common.{◌*◌, ap, ◌∙◌, rules}
-use Rattle.wide.specs.Natural.{value}
-use Rattle.strength.specs.Working.{wedge_of}
+-- The wedge by the root of s².
 use Rattle.strength.proofs.Joins.{root_fits}
 use Rattle.strength.proofs.capacity.second.Goals as goal
 

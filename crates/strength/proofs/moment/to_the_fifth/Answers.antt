@@ -1,4 +1,5 @@
-use Rattle.std.proofs.Common.{◌≡◌, ℕ, ◌*◌, ◌^◌, ◌<◌, ◌≤◌, refl, ap, ◌∙◌, lt_of_lt_of_le, lt_of_le_of_lt, mul-le-mul, pow-suc, arith, lit<, lit≤, pow-add, rules}
+-- Each product in 64 bits is bounded by its factors; (300 fu)^5 d^13 is the square of (300 fu)^2 d^5 times 300 fu d^3.
+use Rattle.std.proofs.Common.{◌≡◌, ℕ, ◌*◌, ◌^◌, ◌<◌, ◌≤◌, refl, ap, ◌∙◌, lt_of_lt_of_le, lt_of_le_of_lt, mul-le-mul, pow-suc, arith, lit<, lit≤, pow-add}
 use native.Mathlib.Nat.{pow-zero}
 use Rattle.wide.proofs.Bits.{product_bits}
 use Rattle.strength.specs.Shear.{DowelWithin}

@@ -1,4 +1,5 @@
-use Rattle.std.proofs.Common.{◌≡◌, ℕ, ◌+◌, ◌*◌, ◌^◌, ◌<◌, ◌≤◌, refl, lt_of_lt_of_le, lt_of_le_of_lt, lt_irrefl, mul-le-mul, mul-le-mul_left, mul-one, arith, lit<, lit≤, rules}
+-- The root lies between 2 and 8 times 0.3 fu d^2, and the whole root is that of the definition.
+use Rattle.std.proofs.Common.{◌≡◌, ℕ, ◌+◌, ◌*◌, ◌^◌, ◌<◌, ◌≤◌, refl, lt_of_lt_of_le, lt_irrefl, mul-le-mul, mul-le-mul_left, mul-one, arith, lit<, lit≤}
 use Rattle.wide.specs.Natural.{value}
 use Rattle.strength.specs.Roots.{FifthRoot, FifthBracket}
 use Rattle.strength.specs.Shear.{DowelWithin}
@@ -52,9 +53,9 @@ module _ {d fu : ℕ} (w : DowelWithin d fu) where
       }
 
 pub fifth_root_near-requires : goal.fifth_root_near-requires
-unfolding value 
+unfolding value
 fifth_root_near-requires c = bracket c.requires _ _ c.to_the_fifth-n.ensures refl
 
 pub returns : goal.returns
-unfolding value 
+unfolding value
 returns c = moment c.requires _ _ _ c.to_the_fifth-n.ensures refl c.fifth_root_near.ensures

@@ -1,4 +1,5 @@
-use Rattle.std.proofs.Common.{◌≡◌, ℕ, ◌*◌, ◌^◌, ◌<◌, leb, ap, ◌∙◌, rules}
+-- The square, the fourth, the fifth power and the product are made one after the other; each has as many bits as its factors together.
+use Rattle.std.proofs.Common.{◌≡◌, ℕ, ◌*◌, ◌^◌, ◌<◌, leb, ap, ◌∙◌}
 use Rattle.wide.specs.Natural.{value}
 use Rattle.wide.proofs.Bits.{product_bits}
 use Rattle.wide.proofs.Powers.{fifth_is}

@@ -1,4 +1,5 @@
-use Rattle.std.proofs.Common.{◌≡◌, ℕ, ◌+◌, ◌-◌, ◌*◌, ◌^◌, ◌<◌, ap, ◌∙◌, ap₂, mul_comm, arith, lit<, rules}
+-- Numerator and denominator have at most 74 bits, which three limbs hold.
+use Rattle.std.proofs.Common.{◌≡◌, ℕ, ◌+◌, ◌-◌, ◌*◌, ◌^◌, ◌<◌, ap, ◌∙◌, ap₂, mul_comm, arith, lit<}
 use Rattle.wide.proofs.Bits.{product_bits, sum_bits}
 use Rattle.strength.specs.Leaves.{BearingWithin}
 use Rattle.strength.proofs.Room.{room, again, made}
@@ -35,10 +36,10 @@ multiply_add_u64-requires-3 c = again _ 3 74 c.multiply_add_u64-2.auto.sum
 
 pub returns : goal.returns
 returns c = record {
-      num = scaled _ _ _ (made _ tt c.multiply_add_u64.ensures) _ c.from_u64.ensures;
-      den =
-          c.multiply_add_u64-3.ensures
-          ∙ ap₂ (λ (x y : ℕ). x + y)
-          (scaled _ _ _ (made _ tt c.multiply_add_u64-2.ensures) _ c.from_u64-2.ensures)
-          (mul_comm _ 1000 ∙ ap (λ (z : ℕ). 1000 * z) c.from_u64-3.ensures);
-    }
+  num = scaled _ _ _ (made _ tt c.multiply_add_u64.ensures) _ c.from_u64.ensures;
+  den =
+      c.multiply_add_u64-3.ensures
+      ∙ ap₂ (λ (x y : ℕ). x + y)
+      (scaled _ _ _ (made _ tt c.multiply_add_u64-2.ensures) _ c.from_u64-2.ensures)
+      (mul_comm _ 1000 ∙ ap (λ (z : ℕ). 1000 * z) c.from_u64-3.ensures);
+}

@@ -1,4 +1,5 @@
-use Rattle.std.proofs.Common.{◌≡◌, ℕ, ◌*◌, ◌/◌, ◌^◌, ◌<◌, ◌≤◌, ap, ◌∙◌, ap₂, lt_of_lt_of_le, lt_of_le_of_lt, le_of_lt, mul-le-mul_right, mul_comm, mul-le-mul, mul-le-mul_left, arith, lit<, lit≤, rules}
+-- The numerator has 204 bits, the divisor 151, and the root of their quotient is that of the definition.
+use Rattle.std.proofs.Common.{◌≡◌, ℕ, ◌*◌, ◌/◌, ◌^◌, ◌<◌, ◌≤◌, ap, ◌∙◌, ap₂, lt_of_lt_of_le, lt_of_le_of_lt, le_of_lt, mul-le-mul_right, mul_comm, mul-le-mul, mul-le-mul_left, arith, lit<, lit≤}
 use Rattle.wide.proofs.Bits.{product_bits}
 use Rattle.strength.specs.Working.{first_of, square_root_of}
 use Rattle.strength.proofs.Greatest.{square_root_is}
@@ -12,7 +13,7 @@ below : (Q f nums whole a b : ℕ) → a ≡ nums * f → b ≡ whole * 10 → f
 below Q f nums whole a b ea eb hf p h = rw (ea, eb) (omega (arith, mul-le-mul_right f h, mul-le-mul_left whole hf))
 
 quotient : (k m nums whole a b : ℕ) → a ≡ nums * (529 * k * m) → b ≡ whole * 10 → square_root_of (a / b) ≡ first_of k m nums whole
-unfolding first_of 
+unfolding first_of
 quotient k m nums whole a b ea eb =
     ap₂ (λ (x y : ℕ). square_root_of (x / y)) (ea ∙ mul_comm nums (529 * k * m)) (eb ∙ mul_comm whole 10)
 

@@ -1,4 +1,5 @@
-use Rattle.std.proofs.Common.{◌≡◌, ℕ, ◌*◌, ◌/◌, ◌<◌, ◌≤◌, ◌∙◌, ap₂, arith, lit<, rules}
+-- The numerator has 103 bits, the divisor 75, and their quotient is that of the definition.
+use Rattle.std.proofs.Common.{◌≡◌, ℕ, ◌*◌, ◌/◌, ◌<◌, ◌≤◌, ◌∙◌, ap₂, arith, lit<}
 use Rattle.wide.proofs.Bits.{product_bits}
 use Rattle.strength.specs.Working.{half_of}
 use Rattle.strength.proofs.Room.{room, made, divided_is}
@@ -8,7 +9,7 @@ below : (force num den a b : ℕ) → a ≡ num * force → b ≡ den * 2 → 0 
 below force num den a b ea eb p h = omega arith
 
 quotient : (force num den a b : ℕ) → a ≡ num * force → b ≡ den * 2 → a / b ≡ half_of (force * num) den
-unfolding half_of 
+unfolding half_of
 quotient force num den a b ea eb = ap₂ (λ (x y : ℕ). x / y) (ea ∙ omega arith) (eb ∙ omega arith)
 
 pub multiply_add_u64-requires : goal.multiply_add_u64-requires

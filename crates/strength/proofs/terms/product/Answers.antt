@@ -1,4 +1,4 @@
-use Rattle.std.proofs.Common.{rules}
+-- Two numbers of 73 bits make one of 146, which five limbs hold.
 use Rattle.wide.proofs.Bits.{product_bits}
 use Rattle.strength.proofs.Room.{room, made}
 use Rattle.strength.proofs.terms.product.Goals as goal

@@ -1,4 +1,5 @@
-use Rattle.std.proofs.Common.{◌≡◌, ℕ, ◌*◌, ◌/◌, ◌<◌, ◌≤◌, ap, ◌∙◌, lt_of_le_of_lt, mul_comm, arith, lit<, rules}
+-- 2^60 part/whole has at most 60 bits, so the root is that of the definition.
+use Rattle.std.proofs.Common.{◌≡◌, ℕ, ◌*◌, ◌/◌, ◌<◌, ◌≤◌, ap, ◌∙◌, lt_of_le_of_lt, mul_comm, arith, lit<}
 use Rattle.wide.specs.Natural.{value}
 use Rattle.wide.proofs.Bits.{product_bits}
 use Rattle.strength.specs.Working.{share_root_of, square_root_of}
@@ -10,15 +11,15 @@ bound : (x part whole : ℕ) → x ≡ part * 1152921504606846976 → part ≤ w
 bound x part whole e h p = omega arith
 
 pub multiply_add_u64-requires : goal.multiply_add_u64-requires
-unfolding share_root_of 
+unfolding share_root_of
 multiply_add_u64-requires c = room _ 208 tt (product_bits 147 61 (lt_of_le_of_lt c.requires.below c.requires.bits) (lit< tt)) tt
 
 pub quotient-requires : goal.quotient-requires
-unfolding share_root_of 
+unfolding share_root_of
 quotient-requires c = bound _ _ _ (made _ tt c.multiply_add_u64.ensures) c.requires.below c.requires.positive
 
 pub returns : goal.returns
-unfolding share_root_of 
+unfolding share_root_of
 returns c = square_root_is _ _ c.quotient.type_inv c.whole_square_root.ensures
     ∙ ap square_root_of
     (divided_is c.quotient.ensures

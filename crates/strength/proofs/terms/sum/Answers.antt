@@ -1,4 +1,5 @@
-use Rattle.std.proofs.Common.{ℕ, ◌+◌, ap, ◌∙◌, rules}
+-- Two numbers of 146 bits make one of 147, which five limbs hold.
+use Rattle.std.proofs.Common.{ℕ, ◌+◌, ap, ◌∙◌}
 use Rattle.wide.specs.Natural.{value}
 use Rattle.wide.proofs.Bits.{sum_bits}
 use Rattle.strength.proofs.Room.{room, again, made}

@@ -1,4 +1,5 @@
-use Rattle.std.proofs.Common.{◌≡◌, ℕ, cond, eqb, ap, ◌∙◌, arith, rules, eq-eqb, ne_eqb}
+-- One shear plane or two, as the definition has it.
+use Rattle.std.proofs.Common.{◌≡◌, ℕ, cond, eqb, ap, ◌∙◌, eq-eqb, ne_eqb}
 use Rattle.strength.specs.Working.{wedge_of}
 use Rattle.strength.proofs.Capacities.{share_bound}
 use Rattle.strength.proofs.terms.third_term.Goals as goal

@@ -1,4 +1,5 @@
-use Rattle.std.proofs.Common.{◌≡◌, ℕ, ◌+◌, ◌*◌, ◌/◌, ◌^◌, ◌<◌, ◌≤◌, ◌∙◌, ap₂, lt_of_lt_of_le, lt_of_le_of_lt, mul-le-mul_right, mul-le-mul, arith, lit<, lit≤, rules}
+-- The numerator has 133 bits, the divisor 105, and their quotient is that of the definition.
+use Rattle.std.proofs.Common.{◌≡◌, ℕ, ◌+◌, ◌*◌, ◌/◌, ◌^◌, ◌<◌, ◌≤◌, ◌∙◌, ap₂, lt_of_le_of_lt, mul-le-mul_right, mul-le-mul, arith, lit<}
 use Rattle.wide.proofs.Bits.{product_bits}
 use Rattle.strength.specs.Working.{wedge_of}
 use Rattle.strength.proofs.Room.{room, made, divided_is}
@@ -9,7 +10,7 @@ below : (force num den root a b : ℕ) → a ≡ num * (force * root) → b ≡ 
 below force num den root a b ea eb p h = omega (arith, mul-le-mul_right root h)
 
 quotient : (force num den root a b : ℕ) → a ≡ num * (force * root) → b ≡ den * (1073741824 + root) → a / b ≡ wedge_of (force * num) den root
-unfolding wedge_of 
+unfolding wedge_of
 quotient force num den root a b ea eb = ap₂ (λ (x y : ℕ). x / y) (ea ∙ omega arith) eb
 
 scaled : {force root : ℕ} → force ≤ 924960000 → root ≤ 1073741824 → force * root < 2 ^ 60

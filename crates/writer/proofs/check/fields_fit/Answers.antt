@@ -11,7 +11,7 @@ abbrev Reads : ℤ → Type 0
 Reads z = to_z w32 (of_z w32 z) ≡ z
 
 pub returns : goal.returns
-unfolding fields_fit 
+unfolding fields_fit
 returns c = let read_planes : Reads c.args.f.planes = search rules in
     let read_diameter : Reads c.args.f.diameter = search rules in
     let read_steel : Reads c.args.f.steel = search rules in

@@ -6,7 +6,7 @@ use Rattle.writer.specs.Working.{member_fits}
 use Rattle.writer.proofs.check.member_fits.Goals as goal
 
 pub returns : goal.returns
-unfolding member_fits 
+unfolding member_fits
 returns c = let m = c.args.m in
     let k : to_z w32 (of_z w32 m.class) ≡ m.class = search rules in
     let g : to_z w32 (of_z w32 m.grain) ≡ m.grain = search rules in

@@ -1,12 +1,11 @@
-use Prim.Native.Nat.{ℕ, ◌-◌, ◌≤◌}
+-- The places passed hold the list's numbers.
+use Prim.Native.Nat.{ℕ}
 use borrow.Author.Rules.{rules}
 use lib.IntN.{ℤ, pos}
-use lib.ListN.{length, get_or}
-use mathlib.Core.Path.{◌∙◌, ◌≡◌, sym}
+use lib.ListN.{get_or}
+use mathlib.Core.Path.{◌≡◌, sym}
 use mir.Syntax.{w32}
 use mir.Val.{of_z, to_z}
-use native.Mathlib.Omega.{arith}
-use Rattle.joint.specs.Layout.{column}
 use Rattle.joint.proofs.Columns.{column_more, column_none}
 use Rattle.writer.proofs.check.placed.Goals as goal
 

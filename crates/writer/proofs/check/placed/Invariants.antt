@@ -1,13 +1,8 @@
-use Prim.Native.Nat.{ℕ, ◌-◌, ◌≤◌}
-use borrow.Author.Rules.{rules}
-use lib.IntN.{ℤ, pos}
+use Prim.Native.Nat.{◌-◌, ◌≤◌}
+use lib.IntN.{pos}
 use lib.ListN.{length, get_or}
-use mathlib.Core.Path.{◌∙◌, ◌≡◌, sym}
-use mir.Syntax.{w32}
-use mir.Val.{of_z, to_z}
-use native.Mathlib.Omega.{arith}
+use mathlib.Core.Path.{◌≡◌}
 use Rattle.joint.specs.Layout.{column}
-use Rattle.joint.proofs.Columns.{column_more, column_none}
 use Rattle.writer.proofs.check.placed.Given as goal
 
 abbrev pub invariant-loop-i : goal.invariant-loop-i

@@ -6,7 +6,7 @@ use Rattle.writer.specs.Write.{values_from}
 use Rattle.writer.proofs.check.values_from.Goals as goal
 
 pub returns : goal.returns
-unfolding values_from 
+unfolding values_from
 returns c = let read : to_z w32 (of_z w32 c.args.f.version) ≡ c.args.f.version = search rules in
     simp (
       c.placed-xs.ensures,

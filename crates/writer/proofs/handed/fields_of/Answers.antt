@@ -1,3 +1,4 @@
+-- Each number fits 32 bits with a sign.
 use borrow.Author.Rules.{rules}
 use mathlib.Core.Path.{◌≡◌}
 use mir.Syntax.{w32}
@@ -8,7 +9,7 @@ use Rattle.writer.proofs.Unsigned.{unsigned}
 use Rattle.writer.proofs.handed.fields_of.Goals as goal
 
 pub returns : goal.returns
-unfolding fields_of 
+unfolding fields_of
 returns c = let fx_back : let l = c.args.v.loads in to_z w32 (of_z w32 l.fx) ≡ l.fx = search rules in
     let fy_back : let l = c.args.v.loads in to_z w32 (of_z w32 l.fy) ≡ l.fy = search rules in
     let g = c.struct_known-6-1.given in

@@ -1,0 +1,11 @@
+use native.Mathlib.Omega.{arith}
+use Prim.Native.Nat.{◌*◌}
+use lib.ListN.{length}
+use Rattle.wide_run.proofs.Room.{room_product, own_bits}
+use Rattle.wide_run.proofs.write_product.Goals as goal
+
+pub multiply_add-requires : goal.multiply_add-requires
+multiply_add-requires c =
+    let a = c.args.a.now in
+    let b = c.args.b.now in
+    room_product _ (32 * length a) (32 * length b) c.requires.0 (own_bits a c.type_inv.a) (own_bits b c.type_inv.b) (omega arith)
