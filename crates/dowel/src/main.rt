@@ -2,15 +2,14 @@
 #![tactic(auto)]
 
 use std::env::{Env, FillError};
-use std::io;
 
-fn main(rt: HostRuntime) -> io::Result<()> {
+fn main(rt: HostRuntime) {
     if has_argument(&rt) {
-        return eprintln!(rt; "usage: dowel < RECORD");
+        let _ = eprintln!(rt; "usage: dowel < RECORD");
+        return;
     }
     let mut buffer = [0u8; 4096];
     console::answer(&rt, &mut rt.stdin(), &mut buffer);
-    Ok(())
 }
 
 // Whether anything stands after the program's name.

@@ -3,17 +3,16 @@
 
 use console::Noting;
 use line::put;
-use std::fs::File;
+use std::env::Env;
+use std::io;
 use std::io::ErrorKind;
-use std::{env, io};
 
-fn main(rt: HostRuntime) -> io::Result<()> {
-    for path in env::args(&rt)?.skip(1) {
-        if !judge_file(&rt, path.as_str()) {
-            return Ok(());
+fn main(rt: HostRuntime) {
+    for i in 1..1000 {
+        if !judge_file(&rt, i) {
+            return;
         }
     }
-    Ok(())
 }
 
 // Writes a name of up to 4,096 bytes and a line of up to 92 together, by one write.
@@ -32,15 +31,19 @@ fn write_named(rt: &HostRuntime, name: &[u8], line: &[u8]) -> io::Result<()> {
     rt.write_all(&text[..end])
 }
 
-// The file of that name; false where it cannot be opened.
-fn judge_file(rt: &HostRuntime, path: &str) -> bool {
-    let mut file = match File::open(rt, path) {
-        Ok(file) => Noting::new(file),
-        Err(error) => {
-            failure::fail(rt, path, error);
-            return false;
-        }
+// The file named by argument i; false where there is none.
+fn judge_file(rt: &HostRuntime, i: usize) -> bool {
+    let mut room = [0u8; 4096];
+    let Ok(length) = rt.arg(i, &mut room) else {
+        return false;
     };
+    let Some(path) = intake::name(rt, &room[..length]) else {
+        return false;
+    };
+    let Some(opened) = intake::open(rt, path) else {
+        return false;
+    };
+    let mut file = Noting::new(opened);
     let mut buffer = [0u8; 4096];
     let a = console::judged(&mut file, &mut buffer);
     let line = a.line;

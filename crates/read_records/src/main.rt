@@ -1,12 +1,11 @@
 // Reads the record files that its arguments name, and writes of each the refusal with its place, or `accepted`.
 #![tactic(auto)]
 
-use std::fs::File;
-use std::io::Read;
-use std::{env, io};
+use std::env::Env;
+use std::io;
 
 // Longer than any record that it is run on.
-const LONGEST: u64 = 70000;
+const LONGEST: usize = 70000;
 
 fn number(rt: &HostRuntime, n: u8) -> io::Result<()> {
     print!(rt; " {n}")
@@ -25,30 +24,28 @@ fn write_refusal(rt: &HostRuntime, bytes: &[u8]) -> io::Result<()> {
     println!(rt; "")
 }
 
-// At most LONGEST bytes of a file.
-fn contents(rt: &HostRuntime, path: &str) -> io::Result<Vec<u8>> {
-    let mut bytes = Vec::new(rt.alloc());
-    File::open(rt, path)?.take(LONGEST).read_to_end(&mut bytes)?;
-    Ok(bytes)
-}
-
-// The file of that name; false where it cannot be read.
-fn write_file(rt: &HostRuntime, path: &str) -> io::Result<bool> {
-    let bytes = match contents(rt, path) {
-        Ok(bytes) => bytes,
-        Err(error) => {
-            failure::fail(rt, path, error);
-            return Ok(false);
-        }
+// The file named by argument i; false where there is none.
+fn write_file(rt: &HostRuntime, i: usize) -> io::Result<bool> {
+    let mut room = [0u8; 4096];
+    let Ok(length) = rt.arg(i, &mut room) else {
+        return Ok(false);
     };
+    let Some(path) = intake::name(rt, &room[..length]) else {
+        return Ok(false);
+    };
+    let Some(mut file) = intake::open(rt, path) else {
+        return Ok(false);
+    };
+    let mut bytes = [0u8; LONGEST];
+    let n = intake::read_full(&mut file, &mut bytes);
     print!(rt; "{path}:")?;
-    write_refusal(rt, bytes.as_slice())?;
+    write_refusal(rt, &bytes[..n])?;
     Ok(true)
 }
 
 fn main(rt: HostRuntime) -> io::Result<()> {
-    for path in env::args(&rt)?.skip(1) {
-        if !write_file(&rt, path.as_str())? {
+    for i in 1..1000 {
+        if !write_file(&rt, i)? {
             return Ok(());
         }
     }

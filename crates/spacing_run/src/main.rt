@@ -12,14 +12,13 @@ use spacing::verdict::Fault;
 use spacing::view::{Piece, Which};
 use spacing::{signed, verdict, view};
 use std::io;
-use std::io::Read;
 
 const FIELD: usize = 9;
 
 const BEFORE_DOWELS: usize = 14;
 
 // The most bytes that are read.
-const MOST_BYTES: u64 = 65536;
+const MOST_BYTES: usize = 65536;
 
 // Tenths of a millimetre in one.
 const TENTHS: u64 = 10;
@@ -242,8 +241,8 @@ fn table_13_2(rt: &HostRuntime) -> io::Result<()> {
 }
 
 fn main(rt: HostRuntime) -> io::Result<()> {
-    let mut text = Vec::new(rt.alloc());
-    rt.stdin().take(MOST_BYTES).read_to_end(&mut text)?;
-    joints(&rt, text.as_slice())?;
+    let mut text = [0u8; MOST_BYTES];
+    let n = intake::read_full(&mut rt.stdin(), &mut text);
+    joints(&rt, &text[..n])?;
     table_13_2(&rt)
 }

@@ -1,5 +1,5 @@
-// The table by which a record's classes are read: the printed one, or a firm's own, which is lent as bytes (02, A4). A firm's table is
-// loaded, or turned away by 14 or 15, and asked for a code.
+// A table of classes: the printed one, or a firm's own, which is lent as bytes (02, A4). A firm's table is loaded, or turned away by 14 or 15,
+// and asked for a code. Nothing reads a record by it yet.
 #![tactic(auto)]
 
 ghost use Rattle.std.specs.Prelude.{◌≡◌, not, ◌+◌, ◌≤◌, length};

@@ -9,7 +9,7 @@ mod cases;
 mod guards;
 
 use std::io;
-use std::io::{ErrorKind, Read};
+use std::io::Read;
 
 // More cases than any input has: nothing says that an input ends.
 const MOST_CASES: usize = 100000;
@@ -28,14 +28,9 @@ fn main(rt: HostRuntime) -> io::Result<()> {
 // Reads and runs one case; false where the input has no whole case left.
 fn next_case(rt: &HostRuntime) -> io::Result<bool> {
     let mut block = [0u8; 138];
-    let read = rt.stdin().read_exact(&mut block);
-    if let Err(e) = read {
-        return if e.kind() == ErrorKind::UnexpectedEof {
-            Ok(false)
-        } else {
-            Err(e)
-        };
-    }
+    let Ok(()) = rt.stdin().read_exact(&mut block) else {
+        return Ok(false);
+    };
     run_case(rt, &block)?;
     Ok(true)
 }

@@ -6,12 +6,11 @@
 ghost use Rattle.std.specs.Prelude.{◌≤◌};
 
 use numbers::{i32_at, u32_at};
-use std::fs::File;
-use std::io::Read;
-use std::{env, io};
+use std::env::Env;
+use std::io;
 
 // Longer than any file that it is run on.
-const LONGEST: u64 = 4096;
+const LONGEST: usize = 4096;
 
 // The word `case`, as a number.
 const CASE: i32 = 1702060387;
@@ -208,23 +207,21 @@ fn run_record(rt: &HostRuntime, bytes: &[u8]) -> io::Result<()> {
     Ok(())
 }
 
-// At most LONGEST bytes of a file.
-fn contents(rt: &HostRuntime, path: &str) -> io::Result<Vec<u8>> {
-    let mut bytes = Vec::new(rt.alloc());
-    File::open(rt, path)?.take(LONGEST).read_to_end(&mut bytes)?;
-    Ok(bytes)
-}
-
-// The file of that name; false where it cannot be read.
-fn run_file(rt: &HostRuntime, path: &str) -> io::Result<bool> {
-    let all = match contents(rt, path) {
-        Ok(bytes) => bytes,
-        Err(error) => {
-            failure::fail(rt, path, error);
-            return Ok(false);
-        }
+// The file named by argument i; false where there is none.
+fn run_file(rt: &HostRuntime, i: usize) -> io::Result<bool> {
+    let mut room = [0u8; 4096];
+    let Ok(length) = rt.arg(i, &mut room) else {
+        return Ok(false);
     };
-    let bytes = all.as_slice();
+    let Some(path) = intake::name(rt, &room[..length]) else {
+        return Ok(false);
+    };
+    let Some(mut file) = intake::open(rt, path) else {
+        return Ok(false);
+    };
+    let mut all = [0u8; LONGEST];
+    let n = intake::read_full(&mut file, &mut all);
+    let bytes = &all[..n];
     print!(rt; "{path}:")?;
     if number_at(bytes, 0) == CASE {
         run_case(rt, bytes)?;
@@ -236,8 +233,8 @@ fn run_file(rt: &HostRuntime, path: &str) -> io::Result<bool> {
 }
 
 fn main(rt: HostRuntime) -> io::Result<()> {
-    for path in env::args(&rt)?.skip(1) {
-        if !run_file(&rt, path.as_str())? {
+    for i in 1..1000 {
+        if !run_file(&rt, i)? {
             return Ok(());
         }
     }
