@@ -1,14 +1,16 @@
 // The files that a program's arguments name: opened, or told to standard error, and read as far as they can be.
 #![tactic(auto)]
 
-ghost use Rattle.std.specs.Prelude.{◌≤◌, length};
+ghost use Rattle.std.specs.Prelude.{◌≡◌, ◌≤◌, length, IfSome};
 
 use std::fs::File;
 use std::io::{ErrorKind, Read};
 use std::{io, str};
 
 // A file's name as text, which std wants of a path; where it is none, that is told to standard error.
-pub fn name<'a, R: Eprint + Alloc>(rt: &R, argument: &'a [u8]) -> Option<&'a str> {
+pub fn name<'a, R: Eprint + Alloc>(rt: &R, argument: &'a [u8]) -> Option<&'a str>
+    ensures { IfSome result (λ path. path.now ≡ argument.now) }
+{
     match str::from_utf8(argument) {
         Ok(path) => Some(path),
         Err(_) => {
