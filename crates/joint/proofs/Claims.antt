@@ -94,27 +94,16 @@ claim s = go (ℕ_discrete (refusal_of s).number 0)
 pub judged : {s : List ℕ} {r : Report} → r ≡ report_of s → Reported s r
 judged {s} {r} e = record { claim = subst⁻¹ (Judged s) e (claim s); is = e }
 
--- ---- the verdict
-pub fits : (U : ℕ) → U ≤ 10000 → Fits ≡ verdict_of U
-fits U h = simp (le-leb U 10000 h)
+-- ---- by the outcome of the refusals
+module _ {s : List ℕ} where
+  pub accepted_outcome : {v : Values} → outcome_in (Ok v) ≡ outcome_of s → Accepted s × (v ≡ values_of s)
+  unfolding outcome_of outcome
+  accepted_outcome {v} e =
+      let a : Accepted s = sym (ap (λ (o : Outcome). o.number) e) in
+      (a, ap (λ (o : Outcome). o.values) e ∙ ap (λ (b : Bool). cond b (values_of s) zero_values) (eq-eqb (refusal_of s).number 0 a))
 
-pub overloaded : (U : ℕ) → 10000 < U → Overloaded ≡ verdict_of U
-overloaded U h = simp (lt-leb U 10000 h)
-
--- ---- the outcome of the refusals
-pub outcome_number : (s : List ℕ) (o : Outcome) → o ≡ outcome_of s → o.number ≡ (refusal_of s).number
-unfolding outcome_of outcome
-outcome_number s o e = ap (λ (r : Outcome). r.number) e
-
-pub outcome_values : (s : List ℕ) (o : Outcome) → o ≡ outcome_of s → Accepted s → o.values ≡ values_of s
-unfolding outcome_of outcome
-outcome_values s o e h =
-    ap (λ (r : Outcome). r.values) e
-    ∙ ap (λ (b : Bool). cond b (values_of s) zero_values) (eq-eqb (refusal_of s).number 0 h)
-
-pub outcome_refused :
-    (s : List ℕ) (o : Outcome) → o ≡ outcome_of s →
-    unanswered (fault o.number o.member o.first o.second) ≡ unanswered (refusal_of s)
-unfolding outcome_of outcome
-outcome_refused s o e =
-    ap (λ (r : Outcome). unanswered (fault r.number r.member r.first r.second)) e
+  pub refused_outcome : {r : Rejection} → outcome_in (Err r) ≡ outcome_of s → unanswered (fault_in r) ≡ report_of s
+  unfolding outcome_of outcome
+  refused_outcome {r} e =
+      ap (λ (o : Outcome). unanswered (fault o.number o.member o.first o.second)) e
+      ∙ report_refused s (λ h. rejected r (ap (λ (o : Outcome). o.number) e ∙ h))

@@ -269,65 +269,55 @@ outcome_accepted s f e h g = simp (h, drill_none (values_of s) (ap (λ (z : Faul
 
 -- ---- what reading answers, by what its stages answered
 module _ (s : List ℕ) where
-  unread : {n : ℕ} {z : Values} → z ≡ zero_values → n ≡ refusal_number s → (n ≡ 0 → ⊥) → record { number = n; values = z } ≡ reading_of s
+  -- a refusal's number
+  unread : (r : Refusal) → number_of r ≡ refusal_number s → reading (Err r) ≡ reading_of s
   unfolding reading_of
-  unread {n} y e h = simp (y, ← e, ne_eqb n 0 h)
+  unread r e = simp (← e, ne_eqb (number_of r) 0 (numbered_from_1 r))
 
-  module _ {l : Layout} (e : l ≡ layout (first_holding (script_tests s)) (parts_of s)) where
-    pub refused_layout : {m n : ℕ} {z : Values} → l ≡ LayoutRefused m → n ≡ layout_number l → z ≡ zero_values
-        → record { number = n; values = z } ≡ reading_of s
-    unfolding refusal_number
-    refused_layout h q y =
-        let f = layout_refused _ _ e h in
-        let k = q ∙ layout_number_lem _ _ e in
-        unread y (k ∙ sym (first_kept (script_tests s) (designer_tests s) f)) (λ z. f (sym k ∙ z))
+  pub refused_layout : (r : Refusal) → number_of r ≡ first_holding (script_tests s) → reading (Err r) ≡ reading_of s
+  unfolding refusal_number
+  refused_layout r e =
+      unread r (e ∙ sym (first_kept (script_tests s) (designer_tests s) (λ z. numbered_from_1 r (e ∙ z))))
 
-    module _ {p : Parts} (h : l ≡ Laid p) {v : Values} (w : v ≡ values_of s) {r : Stage} (g : r ≡ stage (first_holding (value_tests v))) where
-      number_is : refusal_number s ≡ first_holding (value_tests v)
-      unfolding refusal_number numbered
-      number_is = rw w (first_zero (script_tests s) (designer_tests s) refl (laid_number _ _ e h))
+  module _ (e : 0 ≡ first_holding (script_tests s)) {v : Values} (w : v ≡ values_of s) where
+    number_is : refusal_number s ≡ first_holding (value_tests v)
+    unfolding refusal_number numbered
+    number_is = rw w (first_zero (script_tests s) (designer_tests s) refl (sym e))
 
-      pub refused_values : {m n : ℕ} {z : Values} → r ≡ Refused m → n ≡ stage_number r → z ≡ zero_values
-          → record { number = n; values = z } ≡ reading_of s
-      refused_values k q y =
-          let f = stage_refused _ g k in
-          let o = q ∙ stage_number_lem _ g in
-          unread y (o ∙ sym number_is) (λ z. f (sym o ∙ z))
+    pub refused_values : (r : Refusal) → number_of r ≡ first_holding (value_tests v) → reading (Err r) ≡ reading_of s
+    refused_values r g = unread r (g ∙ sym number_is)
 
-      pub read_whole : r ≡ Passed → record { number = 0; values = v } ≡ reading_of s
-      unfolding reading_of
-      read_whole k = simp (number_is ∙ stage_passed _ g k, w)
+    pub read_whole : 0 ≡ first_holding (value_tests v) → reading (Ok v) ≡ reading_of s
+    unfolding reading_of
+    read_whole g = simp (number_is ∙ sym g, w)
 
 -- ---- the outcome, by what reading answered
-module _ (s : List ℕ) {r : Reading} (e : r ≡ reading_of s) where
-  number_of : r.number ≡ refusal_number s
-  unfolding reading_of
-  number_of = ap (λ (z : Reading). z.number) e
-
-  pub refused_reading : (r.number ≡ 0 → ⊥)
-      → record { number = r.number; member = 0; first = 0; second = 0; values = r.values } ≡ outcome_of s
+module _ (s : List ℕ) where
+  pub refused_reading : (r : Refusal) → reading (Err r) ≡ reading_of s → outcome_in (Err (Record r)) ≡ outcome_of s
   unfolding reading_of outcome_of outcome refusal_of
-  refused_reading h = rw e (simp (ne_eqb (refusal_number s) 0 (λ z. h (number_of ∙ z))))
+  refused_reading r e =
+      let n : number_of r ≡ refusal_number s = ap (λ (z : Reading). z.number) e in
+      simp (← n, ne_eqb (number_of r) 0 (numbered_from_1 r))
 
-  module _ (h : r.number ≡ 0) where
+  module _ {v : Values} (e : reading (Ok v) ≡ reading_of s) where
     none_numbered : refusal_number s ≡ 0
-    none_numbered = sym number_of ∙ h
+    unfolding reading_of
+    none_numbered = sym (ap (λ (z : Reading). z.number) e)
 
-    values_are : r.values ≡ values_of s
+    values_are : v ≡ values_of s
     unfolding reading_of
     values_are = ap (λ (z : Reading). z.values) e ∙ simp none_numbered
 
-    pub drill_given : Given r.values.dowel.diameter r.values.loads.fx r.values.loads.fy r.values.positions.n
+    pub drill_given : Given v.dowel.diameter v.loads.fx v.loads.fy v.positions.n
     unfolding refusal_number numbered
     drill_given =
         let n = no_number (before10 s) refl none_numbered in
         rw values_are (given (values_of s) (n.none 6) (n.none 8))
 
-    module _ {f : Fault} (d : f ≡ drill_fault r.values) where
-      pub refused_drill : {z : Values} → (f.number ≡ 0 → ⊥) → z ≡ zero_values
-          → record { number = f.number; member = f.member; first = f.first; second = f.second; values = z } ≡ outcome_of s
-      unfolding outcome_of outcome refusal_of
-      refused_drill n y = simp (none_numbered, ← values_are, ← d, ne_eqb f.number 0 n, y)
+    pub refused_plan : (f : PlanFault) → plan_told (Err f) ≡ drill_fault v → outcome_in (Err (Plan f)) ≡ outcome_of s
+    unfolding outcome_of outcome refusal_of
+    refused_plan f d = simp (none_numbered, ← values_are, ← d)
 
-      pub accepted : f.number ≡ 0 → record { number = 0; member = 0; first = 0; second = 0; values = r.values } ≡ outcome_of s
-      accepted n = rw values_are (outcome_accepted s f (rw values_are at d) none_numbered n)
+    pub accepted : plan_told (Ok tt) ≡ drill_fault v → outcome_in (Ok v) ≡ outcome_of s
+    unfolding outcome_of outcome refusal_of
+    accepted d = simp (none_numbered, ← values_are, ← d)

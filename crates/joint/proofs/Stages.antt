@@ -5,6 +5,7 @@ use native.Mathlib.Nat.{add-zero, add-sub_cancel_left}
 use native.Mathlib.Numerals.{add-one}
 use mathlib.Core.Path.{◌≡◌, refl, sym, ap, ◌∙◌}
 use mathlib.Core.List.{List}
+use Rattle.std.specs.Prelude.{Option, Some, None}
 use mathlib.Core.Bool.{Bool, true, false, cond, not, ◌&&◌, ◌||◌, false≢true, and-false, and-eq-true_iff}
 use lib.Dec.{eqb, leb, lit≤}
 use lib.ListN.{length, get_or, take, drop, replicate, length-drop}
@@ -22,58 +23,17 @@ use Rattle.joint.specs.Layout.{members_in, dowel_in, positions_in, loads_in, val
 use Rattle.joint.specs.Refusal.{refusal1, refusal2, refusal3, refusal4, refusal5, refusal6, positions_length, one_if, once, first_holding, script_tests}
 use Rattle.joint.specs.Refusal.{between, member_within, members_within, dowel_within, positions_within, loads_within, fields_within}
 use Rattle.joint.specs.Refusal.{outline_empty, empty_outlines, no_force}
-use Rattle.joint.specs.Stage.{Parted, Bounded, present, part_at, found, part_tests, parts_of, layout, layout_number, Stretch, LaidOut}
-use Rattle.joint.specs.Stage.{stage, stage_number}
+use Rattle.joint.specs.Stage.{Parted, Bounded, present, part_at, found, parts_of, all_found, sized, Stretch, LaidOut}
 use Rattle.joint.specs.Refusal.{value_tests}
 use Rattle.joint.specs.declared.Members.{Members}
 use Rattle.joint.specs.declared.Dowel.{Dowel}
 use Rattle.joint.specs.declared.Positions.{Positions}
 use Rattle.joint.specs.declared.Loads.{Loads}
 use Rattle.joint.specs.declared.Values.{Values}
-use Rattle.joint.specs.declared.Stage.{Stage}
-use Rattle.joint.specs.declared.Stage.TheVariants.{Passed, Refused}
 use Rattle.joint.specs.declared.layout.Part.{Part}
 use Rattle.joint.specs.declared.layout.Parts.{Parts}
-use Rattle.joint.specs.declared.layout.Layout.{Layout}
-use Rattle.joint.specs.declared.layout.Layout.TheVariants.{Laid, Refused as LayoutRefused}
 use Rattle.joint.proofs.Holding.{numbered, no_number}
 use Rattle.joint.proofs.Tests.{equal, unequal, zero_bits}
-
--- ---- the number behind an answer
-module _ {r : Layout} where
-  pub layout_number_lem : (n : ℕ) (p : Parts) → r ≡ layout n p → layout_number r ≡ n
-  unfolding layout layout_number
-  layout_number_lem zero p e = ap layout_number e
-  layout_number_lem (suc n) p e = ap layout_number e
-
-  pub laid_number : {q : Parts} (n : ℕ) (p : Parts) → r ≡ layout n p → r ≡ Laid q → n ≡ 0
-  unfolding layout
-  laid_number zero p e h = refl
-  laid_number (suc n) p e h = cc
-
-  pub laid_parts : {q : Parts} (n : ℕ) (p : Parts) → r ≡ layout n p → r ≡ Laid q → q ≡ p
-  unfolding layout
-  laid_parts zero p e h = cc
-  laid_parts (suc n) p e h = cc
-
-  pub layout_refused : {m : ℕ} (n : ℕ) (p : Parts) → r ≡ layout n p → r ≡ LayoutRefused m → n ≡ 0 → ⊥
-  unfolding layout
-  layout_refused n p e h z = let o : ◌≡◌ {A = ℕ} 0 1 = cc in omega arith
-
-module _ {r : Stage} where
-  pub stage_number_lem : (n : ℕ) → r ≡ stage n → stage_number r ≡ n
-  unfolding stage stage_number
-  stage_number_lem zero e = ap stage_number e
-  stage_number_lem (suc n) e = ap stage_number e
-
-  pub stage_passed : (n : ℕ) → r ≡ stage n → r ≡ Passed → n ≡ 0
-  unfolding stage
-  stage_passed zero e h = refl
-  stage_passed (suc n) e h = cc
-
-  pub stage_refused : {m : ℕ} (n : ℕ) → r ≡ stage n → r ≡ Refused m → n ≡ 0 → ⊥
-  unfolding stage
-  stage_refused n e h z = let o : ◌≡◌ {A = ℕ} 0 1 = cc in omega arith
 
 -- ---- refusal 4: what a right chain says of its parts
 offset_is : (s : List ℕ) (k : ℕ) → offset_of Two s 4 k ≡ pair_offset s (suc k)
@@ -115,7 +75,7 @@ module _ {s bounds : List ℕ} {b : Bool} (e : Read Two s 4 20 4 (replicate 5 0)
 -- ---- refusal 5
 module _ (s : List ℕ) (kind : ℕ) where
   found_at : (k : ℕ) → k < 4 → ((j : ℕ) → j < k → kind_of_pair s (suc j) ≡ kind → ⊥) → kind_of_pair s (suc k) ≡ kind
-      → part_at s (suc k) ≡ found s kind
+      → Some (part_at s (suc k)) ≡ found s kind
   unfolding found present pair_of_kind
   found_at zero l f e = simp (eq-eqb _ _ e)
   found_at (suc zero) l f e = simp (ne_eqb _ _ (f 0 (omega arith)), eq-eqb _ _ e)
@@ -124,7 +84,7 @@ module _ (s : List ℕ) (kind : ℕ) where
       simp (ne_eqb _ _ (f 0 (omega arith)), ne_eqb _ _ (f 1 (omega arith)), ne_eqb _ _ (f 2 (omega arith)), eq-eqb _ _ e)
   found_at (suc (suc (suc (suc k)))) l f e = absurd (omega arith)
 
-  found_nowhere : ((j : ℕ) → j < 4 → kind_of_pair s (suc j) ≡ kind → ⊥) → record { start = 0; bytes = 0 } ≡ found s kind
+  found_nowhere : ((j : ℕ) → j < 4 → kind_of_pair s (suc j) ≡ kind → ⊥) → None ≡ found s kind
   unfolding found present
   found_nowhere f = simp (
     ne_eqb _ _ (f 0 (omega arith)),
@@ -149,13 +109,13 @@ module _ {s bounds : List ℕ} (b : Bounded s bounds) where
   start_first k l = rw add-one (omega (arith, b.start k l, b.end k l))
 
   pub part_found : {kind k : ℕ} → k < 4 → ((j : ℕ) → j < k → kind_at j ≡ kind → ⊥) → kind_at k ≡ kind
-      → record { start = get_or bounds k 0; bytes = get_or bounds (k + 1) 0 - get_or bounds k 0 } ≡ found s kind
+      → Some (record { start = get_or bounds k 0; bytes = get_or bounds (k + 1) 0 - get_or bounds k 0 }) ≡ found s kind
   unfolding part_at
   part_found {kind} {k} l f e =
       rw (add-one, b.start k l, b.end k l, add-sub_cancel_left)
       (found_at s kind k l (λ j g. rw (kind_at_lem j (omega arith)) (f j g)) (kind_at_lem k l ∙ e))
 
-  pub part_nowhere : {kind : ℕ} → ((j : ℕ) → j < 4 → kind_at j ≡ kind → ⊥) → record { start = 0; bytes = 0 } ≡ found s kind
+  pub part_nowhere : {kind : ℕ} → ((j : ℕ) → j < 4 → kind_at j ≡ kind → ⊥) → None ≡ found s kind
   part_nowhere {kind} f = found_nowhere s kind (λ j l. rw (kind_at_lem j l) (f j l))
 
 -- how often a kind occurs
@@ -235,100 +195,83 @@ pair_in P f s kind = of (eqb (kind_of_pair s 1) kind) (eqb (kind_of_pair s 2) ki
     of false false false = f 3 (omega arith)
 
 -- ---- refusals 5 and 6, one after the other
+-- what an answer of the search for a kind says of it
+module _ (s : List ℕ) (kind : ℕ) where
+  pub not_present : None ≡ found s kind → present s kind ≡ false
+  unfolding found
+  not_present e = of (present s kind) e
+    where
+      of : (b : Bool) → None ≡ cond b (Some (part_at s (pair_of_kind s kind))) None → b ≡ false
+      of true h = cc h
+      of false h = refl
+
+  pub is_present : {p : Part} → Some p ≡ found s kind → (present s kind ≡ true) × (p ≡ part_at s (pair_of_kind s kind))
+  unfolding found
+  is_present {p} e = of (present s kind) e
+    where
+      of : (b : Bool) → Some p ≡ cond b (Some (part_at s (pair_of_kind s kind))) None → (b ≡ true) × (p ≡ part_at s (pair_of_kind s kind))
+      of true h = (refl, cc)
+      of false h = cc h
+
+-- the four of them
+module _ (s : List ℕ) where
+  abbrev all_present : Bool
+  all_present = present s 1 && present s 2 && present s 3 && present s 4
+
+  five : refusal5 s ≡ not all_present
+  five = kinds_test s (present s 1) (present s 2) (present s 3) (present s 4) refl refl refl refl ∙ of (present s 1) (present s 2) (present s 3) (present s 4)
+    where
+      of : (a b c d : Bool) → (not a || not b || not c || not d) ≡ not (a && b && c && d)
+      of true true true true = refl
+      of true true true false = refl
+      of true true false d = refl
+      of true false c d = refl
+      of false b c d = refl
+
+  pub kinds_missing : None ≡ all_found s → refusal5 s ≡ true
+  unfolding all_found
+  kinds_missing e = five ∙ ap not (of all_present e)
+    where
+      of : (b : Bool) → None ≡ cond b (Some (parts_of s)) None → b ≡ false
+      of true h = cc h
+      of false h = refl
+
+  pub kinds_there : {p : Parts} → Some p ≡ all_found s → (refusal5 s ≡ false) × (p ≡ parts_of s)
+  unfolding all_found
+  kinds_there {p} e = let t = of all_present e in (five ∙ ap not t.0, t.1)
+    where
+      of : (b : Bool) → Some p ≡ cond b (Some (parts_of s)) None → (b ≡ true) × (p ≡ parts_of s)
+      of true h = (refl, cc)
+      of false h = cc h
+
 -- a part of a right chain lies within the record, and its length is its pair's
-module _ {s : List ℕ} (h : Parted s) (kind : ℕ) where
-  stretch : Stretch s kind (part_at s (pair_of_kind s kind))
-  unfolding part_at part_of_pair
-  stretch = record { inside = pair_in (λ k. pair_sum s k ≤ length s) h.inside s kind; bytes = refl }
+module _ {s : List ℕ} (h : Parted s) where
+  module _ (kind : ℕ) where
+    stretch_of : Stretch s kind (part_at s (pair_of_kind s kind))
+    unfolding part_at part_of_pair
+    stretch_of = record { inside = pair_in (λ k. pair_sum s k ≤ length s) h.inside s kind; bytes = refl }
 
-  pub part_length : length (part_of_kind s kind) ≡ pair_length s (pair_of_kind s kind)
-  unfolding part_of_pair part_at
-  part_length =
-      let i = stretch.inside in
-      length-take-le _ (drop (pair_offset s (pair_of_kind s kind)) s) (rw length-drop (omega arith))
+    pub part_length : length (part_of_kind s kind) ≡ pair_length s (pair_of_kind s kind)
+    unfolding part_of_pair part_at
+    part_length =
+        let i = stretch_of.inside in
+        length-take-le _ (drop (pair_offset s (pair_of_kind s kind)) s) (rw length-drop (omega arith))
 
-  -- it has bytes where its kind is there
-  module _ {r : Part} (e : r ≡ found s kind) where
-    no_bytes : eqb r.bytes 0 ≡ not (present s kind)
-    unfolding found part_at
-    no_bytes = of (present s kind) e
-      where
-        of : (t : Bool) → r ≡ cond t (part_at s (pair_of_kind s kind)) (record { start = 0; bytes = 0 }) → eqb r.bytes 0 ≡ not t
-        of true q = rw q (ne_eqb _ _ (pair_in (λ k. pair_length s k ≡ 0 → ⊥) (λ k l z. let g = h.some k l in omega arith) s kind))
-        of false q = rw q
+  pub positions_inside : (parts_of s).positions.start + (parts_of s).positions.bytes ≤ length s
+  unfolding parts_of
+  positions_inside = (stretch_of 3).inside
 
-    found_part : eqb r.bytes 0 ≡ false → r ≡ part_at s (pair_of_kind s kind)
-    unfolding found
-    found_part k = let t : present s kind ≡ true = not-false (present s kind) (sym no_bytes ∙ k) in cc
-
--- the parts that were found for the kinds of a right chain
-pub record Looked (s : List ℕ) (p1 p2 p3 p4 : Part) : Type 0 where
-  pub right : Parted s
-  pub members : p1 ≡ found s 1
-  pub dowel : p2 ≡ found s 2
-  pub positions : p3 ≡ found s 3
-  pub loads : p4 ≡ found s 4
-
-module _ {s : List ℕ} {p1 p2 p3 p4 : Part} (a : Looked s p1 p2 p3 p4) where
-  abbrev parts_answer : Layout
-  parts_answer = layout (first_holding (part_tests s)) (parts_of s)
-
-  abbrev missing_one : Bool
-  missing_one = eqb p1.bytes 0 || eqb p2.bytes 0 || eqb p3.bytes 0 || eqb p4.bytes 0
-
-  five : refusal5 s ≡ missing_one
-  five =
-      let r = a.right in
-      rw (no_bytes r 1 a.members, no_bytes r 2 a.dowel, no_bytes r 3 a.positions, no_bytes r 4 a.loads)
-      (kinds_test s (present s 1) (present s 2) (present s 3) (present s 4) refl refl refl refl)
-
-  pub kinds_missing : missing_one ≡ true → LayoutRefused 5 ≡ parts_answer
-  unfolding first_holding layout
-  kinds_missing k = simp (five ∙ k)
-
-  module _ (k : missing_one ≡ false) where
-    abbrev PartOf : Part → ℕ → Type 0
-    PartOf p kind = p ≡ part_at s (pair_of_kind s kind)
-
-    are : PartOf p1 1 × PartOf p2 2 × PartOf p3 3 × PartOf p4 4
-    are =
-        let r = a.right in
-        let n = none_of (eqb p1.bytes 0) _ _ _ k in (
-          found_part r 1 a.members n.0,
-          found_part r 2 a.dowel n.1,
-          found_part r 3 a.positions n.2,
-          found_part r 4 a.loads n.3,
-        )
-
-    pub positions_inside : p3.start + p3.bytes ≤ length s
-    positions_inside = rw are.2 (stretch a.right 3).inside
-
-    -- `part` is the stretch of the positions, and q whether its length is right
-    module _ {part : List ℕ} {q : Bool} (f : part ≡ take p3.bytes (drop p3.start s)) (g : q ≡ positions_length part) where
-      abbrev sized : Bool
-      sized = eqb p1.bytes 42 && eqb p2.bytes 3 && q && eqb p4.bytes 11
-
-      six : refusal6 s ≡ not sized
-      unfolding refusal6 part_at part_of_pair
-      six =
-          let r = a.right in
-          rw (g, f, are.0, are.1, are.2, are.3) (simp (part_length r 1, part_length r 2, part_length r 4))
-
-      pub wrong_length : not sized ≡ true → LayoutRefused 6 ≡ parts_answer
-      unfolding first_holding layout
-      wrong_length l = simp (five ∙ k, six ∙ l)
-
-      pub right_lengths : not sized ≡ false → Laid (record { members = p1; dowel = p2; positions = p3; loads = p4 }) ≡ parts_answer
-      unfolding first_holding layout parts_of
-      right_lengths l = simp (five ∙ k, six ∙ l) (simp (are.0, are.1, are.2, are.3))
+  pub six : refusal6 s ≡ not (sized s (parts_of s))
+  unfolding refusal6 sized parts_of part_at part_of_pair
+  six = simp (part_length 1, part_length 2, part_length 4)
 
 -- ---- refusals 1 to 6, one after the other
 module _ (s : List ℕ) where
-  abbrev answer : Layout
-  answer = layout (first_holding (script_tests s)) (parts_of s)
+  abbrev answer : ℕ
+  answer = first_holding (script_tests s)
 
-  pub too_short : length s < 20 → LayoutRefused 1 ≡ answer
-  unfolding refusal1 first_holding layout
+  pub too_short : length s < 20 → 1 ≡ answer
+  unfolding refusal1 first_holding
   too_short l = simp (lt-ltb (length s) 20 l)
 
   -- refusals 1 to 3 do not hold
@@ -342,46 +285,59 @@ module _ (s : List ℕ) where
     unfolding refusal2
     two_is = ap (λ (z : ℕ). not (is_version z)) (sym v) ∙ ap not (sym k)
 
-    pub wrong_version : not q ≡ true → LayoutRefused 2 ≡ answer
-    unfolding refusal1 first_holding layout
-    wrong_version h = simp (le-ltb (length s) 20 l, two_is ∙ h)
+    pub wrong_version : q ≡ false → 2 ≡ answer
+    unfolding refusal1 first_holding
+    wrong_version h = simp (le-ltb (length s) 20 l, two_is ∙ ap not h)
 
-    module _ (v1 : not q ≡ false) {m : ℕ} (w : m ≡ pair_count s) where
-      pub wrong_count : (m ≡ 4 → ⊥) → LayoutRefused 3 ≡ answer
-      unfolding refusal1 refusal3 first_holding layout
-      wrong_count h = simp (le-ltb (length s) 20 l, two_is ∙ v1, unequal w h)
+    module _ (v1 : q ≡ true) {m : ℕ} (w : m ≡ pair_count s) where
+      pub wrong_count : (m ≡ 4 → ⊥) → 3 ≡ answer
+      unfolding refusal1 refusal3 first_holding
+      wrong_count h = simp (le-ltb (length s) 20 l, two_is ∙ ap not v1, unequal w h)
 
       pub header_right : m ≡ 4 → HeaderRight
       unfolding refusal1 refusal3
-      header_right h = record { one = le-ltb (length s) 20 l; two = two_is ∙ v1; three = simp (equal w h) }
+      header_right h = record { one = le-ltb (length s) 20 l; two = two_is ∙ ap not v1; three = simp (equal w h) }
 
   module _ (a : HeaderRight) {bounds : List ℕ} {b : Bool} (e : Read Two s 4 20 4 (replicate 5 0) bounds b) where
-    pub pairs_broken : not b ≡ true → LayoutRefused 4 ≡ answer
-    unfolding first_holding layout
-    pairs_broken h = simp (a.one, a.two, a.three, sym (four e) ∙ h)
-
-    pub pairs_right : not b ≡ false → layout (first_holding (part_tests s)) (parts_of s) ≡ answer
+    pub pairs_broken : b ≡ false → 4 ≡ answer
     unfolding first_holding
-    pairs_right h = simp (a.one, a.two, a.three, sym (four e) ∙ h)
+    pairs_broken h = simp (a.one, a.two, a.three, sym (four e) ∙ ap not h)
+
+    module _ (h : b ≡ true) where
+      pub wrong_kinds : None ≡ all_found s → 5 ≡ answer
+      unfolding first_holding
+      wrong_kinds g = simp (a.one, a.two, a.three, sym (four e) ∙ ap not h, kinds_missing s g)
+
+      module _ {p : Parts} (g : Some p ≡ all_found s) {q : Bool} (k : q ≡ sized s p) where
+        six_is : refusal6 s ≡ not q
+        six_is = six (parted s (sym (four e) ∙ ap not h)) ∙ ap not (ap (sized s) (sym (kinds_there s g).1) ∙ sym k)
+
+        pub wrong_length : q ≡ false → 6 ≡ answer
+        unfolding first_holding
+        wrong_length l = simp (a.one, a.two, a.three, sym (four e) ∙ ap not h, (kinds_there s g).0, six_is ∙ ap not l)
+
+        pub right_lengths : q ≡ true → 0 ≡ answer
+        unfolding first_holding
+        right_lengths l = simp (a.one, a.two, a.three, sym (four e) ∙ ap not h, (kinds_there s g).0, six_is ∙ ap not l)
 
   -- what is left for the reader of values
-  pub laid_out : {r : Layout} {p : Parts} → r ≡ answer → r ≡ Laid p → LaidOut s p
+  pub laid_out : {p : Parts} → 0 ≡ answer → p ≡ parts_of s → LaidOut s p
   unfolding numbered refusal1 refusal6 parts_of positions_length
-  laid_out {r} {p} e h =
-      let n = no_number (script_tests s) refl (laid_number _ _ e h) in
+  laid_out {p} e h =
+      let n = no_number (script_tests s) refl (sym e) in
       let p = parted s (n.none 3) in
       let six : (eqb (length (part_of_kind s 1)) 42 && eqb (length (part_of_kind s 2)) 3
       && (leb 2 (length (part_of_kind s 3)) && eqb (length (part_of_kind s 3)) (2 + 8 * u8_at (part_of_kind s 3) 1))
       && eqb (length (part_of_kind s 4)) 11) ≡ true =
       not-false _ (n.none 5) in
       let t = simp and-eq-true_iff at six in
-      rw (laid_parts _ _ e h)
+      rw h
       (record {
         header = ltb-false _ _ (n.none 0);
-        members = stretch p 1;
-        dowel = stretch p 2;
-        positions = stretch p 3;
-        loads = stretch p 4;
+        members = stretch_of p 1;
+        dowel = stretch_of p 2;
+        positions = stretch_of p 3;
+        loads = stretch_of p 4;
         members_length = eqb-true _ _ t.0.0.0;
         dowel_length = eqb-true _ _ t.0.0.1;
         positions_length_lem = eqb-true _ _ t.0.1.1;
@@ -409,38 +365,31 @@ values_read o k a m b w c n d l = cc
 
 -- ---- refusals 7 to 9, one after the other
 module _ (v : Values) where
-  abbrev tested : Stage
-  tested = stage (first_holding (value_tests v))
+  abbrev tested : ℕ
+  tested = first_holding (value_tests v)
 
   pub fields_test : {p m n d s q l : Bool} → p ≡ between 1 2 v.members.planes → m ≡ member_within v.members.member1
       → n ≡ member_within v.members.member2 → d ≡ between 6 30 v.dowel.diameter → s ≡ between 1 3 v.dowel.steel
       → q ≡ positions_within v.positions → l ≡ loads_within v.loads
-      → not (p && m && n && (d && s) && q && l) ≡ not (fields_within v)
+      → (p && m && n && (d && s) && q && l) ≡ fields_within v
   unfolding members_within dowel_within fields_within
   fields_test p m n d s q l = simp (p, m, n, d, s, q, l)
 
-  pub values_outside : {f : Bool} → f ≡ true → f ≡ not (fields_within v) → Refused 7 ≡ tested
-  unfolding first_holding stage
-  values_outside h e = simp (← e, h)
+  module _ {f : Bool} (e : f ≡ fields_within v) where
+    pub values_outside : f ≡ false → 7 ≡ tested
+    unfolding first_holding
+    values_outside h = simp (← e, h)
 
-  module _ {f : Bool} (h : f ≡ false) (e : f ≡ not (fields_within v)) {a b : Bool} (p : a ≡ outline_empty v.members.member1.outline)
-      (q : b ≡ outline_empty v.members.member2.outline) where
-    pub values_empty : (a || b) ≡ true → Refused 8 ≡ tested
-    unfolding first_holding stage empty_outlines
-    values_empty g = simp (← e, h, ← p, ← q, g)
+    module _ (h : f ≡ true) {a b : Bool} (p : a ≡ outline_empty v.members.member1.outline) (q : b ≡ outline_empty v.members.member2.outline) where
+      pub values_empty : (a || b) ≡ true → 8 ≡ tested
+      unfolding first_holding empty_outlines
+      values_empty g = simp (← e, h, ← p, ← q, g)
 
-    module _ (g : (a || b) ≡ false) (x : SFits w32 v.loads.fx) (y : SFits w32 v.loads.fy) where
-      abbrev unloaded : Bool
-      unloaded = eqb (of_z w32 v.loads.fx) 0 && eqb (of_z w32 v.loads.fy) 0
+      module _ (g : (a || b) ≡ false) where
+        pub values_unloaded : no_force v.loads ≡ true → 9 ≡ tested
+        unfolding first_holding empty_outlines
+        values_unloaded k = simp (← e, h, ← p, ← q, g, k)
 
-      last_test : unloaded ≡ no_force v.loads
-      unfolding no_force
-      last_test = simp (zero_bits v.loads.fx x, zero_bits v.loads.fy y)
-
-      pub values_unloaded : unloaded ≡ true → Refused 9 ≡ tested
-      unfolding first_holding stage empty_outlines
-      values_unloaded k = simp (← e, h, ← p, ← q, g, ← last_test, k)
-
-      pub values_right : unloaded ≡ false → Passed ≡ tested
-      unfolding first_holding stage empty_outlines
-      values_right k = simp (← e, h, ← p, ← q, g, ← last_test, k)
+        pub values_right : no_force v.loads ≡ false → 0 ≡ tested
+        unfolding first_holding empty_outlines
+        values_right k = simp (← e, h, ← p, ← q, g, k)

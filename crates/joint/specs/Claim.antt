@@ -1,7 +1,7 @@
 -- The top claim: what a report says of the bytes handed in (01, 'Rows, share and use', last paragraph; demands 1, 2 and 3).
 use Rattle.std.specs.Prelude.{ℕ, ◌≡◌, List}
-use Rattle.joint.specs.declared.report.Verdict.TheVariants.{Refused}
-use Rattle.joint.specs.declared.report.Report.{Report}
+use Rattle.joint.specs.Answer.Verdict.{Refused}
+use Rattle.joint.specs.Answer.{Report}
 use Rattle.joint.specs.Layout.{values_of}
 use Rattle.joint.specs.Refusal.{refusal_of}
 use Rattle.joint.specs.DesignOf.{design_of}

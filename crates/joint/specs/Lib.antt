@@ -1,3 +1,4 @@
+pub mod Answer
 pub mod Layout
 pub mod Refusal
 pub mod Order
@@ -6,5 +7,6 @@ pub mod Design
 pub mod DesignOf
 pub mod Use
 pub mod Returned
+pub mod Told
 pub mod Claim
 pub mod Starred

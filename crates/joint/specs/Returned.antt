@@ -16,8 +16,8 @@ use Rattle.joint.specs.declared.Positions.{Positions}
 use Rattle.joint.specs.declared.Loads.{Loads}
 use Rattle.joint.specs.declared.Values.{Values}
 use Rattle.joint.specs.declared.demand.Demand.{Demand}
-use Rattle.joint.specs.declared.report.Report.{Report}
-use Rattle.joint.specs.declared.report.Verdict.TheVariants.{Refused}
+use Rattle.joint.specs.Answer.{Report}
+use Rattle.joint.specs.Answer.Verdict.{Refused}
 use Rattle.joint.specs.Layout.{values_of}
 use Rattle.joint.specs.Refusal.{refusal_of, drill_fault}
 use Rattle.joint.specs.DesignOf.{force_along, plane_of, kmod_in}

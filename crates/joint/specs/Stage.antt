@@ -1,15 +1,11 @@
--- What the stages of reading hand to one another, by the tests of `Refusal`: the case of the enum for each number, and the facts that a
--- later stage asks. Nobody needs to believe this: `refusal` is equal to `outcome_of`.
-use Rattle.std.specs.Prelude.{ℕ, zero, suc, ◌+◌, ◌*◌, ◌≤◌, ◌<◌, ◌≡◌, List, [], ◌∷◌, Bool, cond, ◌||◌, eqb, length, get_or, take, drop, ℤ}
+-- What the stages of reading hand to one another, by the tests of `Refusal`, and the facts that a later stage asks. Nobody needs to believe
+-- this: what `accept` answers is equal to `outcome_of`.
+use Rattle.std.specs.Prelude.{ℕ, suc, ◌+◌, ◌*◌, ◌≤◌, ◌<◌, ◌≡◌, List, Bool, cond, ◌&&◌, ◌||◌, eqb, length, get_or, take, drop, ℤ, Option, Some, None}
 use Rattle.numbers.specs.Numbers.{u8_at, i32_at}
 use Rattle.joint.specs.Layout.{pair_offset, pair_length, pair_sum, kind_of_pair, pair_of_kind, part_of_kind}
-use Rattle.joint.specs.Refusal.{Test, test, refusal5, refusal6}
-use Rattle.joint.specs.declared.Stage.{Stage}
-use Rattle.joint.specs.declared.Stage.TheVariants.{Passed, Refused}
+use Rattle.joint.specs.Refusal.{positions_length}
 use Rattle.joint.specs.declared.layout.Part.{Part}
 use Rattle.joint.specs.declared.layout.Parts.{Parts}
-use Rattle.joint.specs.declared.layout.Layout.{Layout}
-use Rattle.joint.specs.declared.layout.Layout.TheVariants.{Laid, Refused as LayoutRefused}
 
 -- ---- refusals 1 to 6
 -- what a right chain says of its four parts: they are not empty and lie within the record
@@ -31,13 +27,9 @@ present s kind =
 unfoldable pub part_at : List ℕ → ℕ → Part
 part_at s k = record { start = pair_offset s k; bytes = pair_length s k }
 
--- the part of a kind; without bytes where there is none
-unfoldable pub found : List ℕ → ℕ → Part
-found s kind = cond (present s kind) (part_at s (pair_of_kind s kind)) (record { start = 0; bytes = 0 })
-
--- the tests of the parts
-abbrev pub part_tests : List ℕ → List Test
-part_tests s = test 5 (refusal5 s) ∷ test 6 (refusal6 s) ∷ []
+-- the part of a kind, where there is one
+unfoldable pub found : List ℕ → ℕ → Option Part
+found s kind = cond (present s kind) (Some (part_at s (pair_of_kind s kind))) None
 
 unfoldable pub parts_of : List ℕ → Parts
 parts_of s = record {
@@ -47,14 +39,18 @@ parts_of s = record {
   loads = part_at s (pair_of_kind s 4);
 }
 
--- a refusal's number as an answer: 0 is the parts; and back
-unfoldable pub layout : ℕ → Parts → Layout
-layout zero p = Laid p
-layout (suc k) p = LayoutRefused (suc k)
+-- the parts of all kinds, where each is there
+unfoldable pub all_found : List ℕ → Option Parts
+all_found s = cond (present s 1 && present s 2 && present s 3 && present s 4) (Some (parts_of s)) None
 
-unfoldable pub layout_number : Layout → ℕ
-layout_number (Laid p) = 0
-layout_number (LayoutRefused k) = k
+-- the stretch that a part names
+abbrev pub stretch : List ℕ → Part → List ℕ
+stretch s p = take p.bytes (drop p.start s)
+
+-- each part has a length of its kind
+unfoldable pub sized : List ℕ → Parts → Bool
+sized s p =
+    eqb p.members.bytes 42 && eqb p.dowel.bytes 3 && positions_length (stretch s p.positions) && eqb p.loads.bytes 11
 
 -- what refusals 1 to 6 leave: a part lies within the record, where its pair says, and has its kind's length
 pub record Stretch (s : List ℕ) (kind : ℕ) (p : Part) : Type 0 where
@@ -71,16 +67,6 @@ pub record LaidOut (s : List ℕ) (p : Parts) : Type 0 where
   pub dowel_length : length (part_of_kind s 2) ≡ 3
   pub positions_length_lem : length (part_of_kind s 3) ≡ 2 + 8 * u8_at (part_of_kind s 3) 1
   pub loads_length : length (part_of_kind s 4) ≡ 11
-
--- ---- refusals 7 to 9
--- a refusal's number as an answer: 0 is `Passed`; and back
-unfoldable pub stage : ℕ → Stage
-stage zero = Passed
-stage (suc k) = Refused (suc k)
-
-unfoldable pub stage_number : Stage → ℕ
-stage_number Passed = 0
-stage_number (Refused k) = k
 
 -- every eighth byte of a part, from `at` on, starts a number
 abbrev pub eighths : List ℕ → ℕ → ℕ → ℤ

@@ -1,8 +1,8 @@
 -- The starred joints of 01, 'Joints to try', with what 01 prints of each, and two of oak (02, A1), with what its formulas give.
 use Rattle.std.specs.Prelude.{ℕ, ◌≤◌, ◌≡◌, List, [], ◌∷◌, ◌++◌, set}
-use Rattle.joint.specs.declared.report.Verdict.{Verdict}
-use Rattle.joint.specs.declared.report.Verdict.TheVariants.{Fits, Overloaded, Refused}
-use Rattle.joint.specs.declared.report.Report.{Report}
+use Rattle.joint.specs.Answer.{Verdict}
+use Rattle.joint.specs.Answer.Verdict.{Fits, Overloaded, Refused}
+use Rattle.joint.specs.Answer.{Report}
 use Rattle.joint.specs.Claim.{Judged}
 
 -- Joint B: p = 2, C24 throughout, grain x, t1 600, t2 800; member 1 x -840 to 20,000, member 2 x -20,000 to 1,440, both y -360 to

@@ -4,9 +4,9 @@ use Rattle.std.specs.Prelude.{ℕ, ◌+◌, ◌<◌, ◌≡◌, cond, leb}
 use Rattle.strength.specs.Fraction.{Fraction, ◌over◌, whole, ◌⊕◌, ◌⊗◌, ◌⊘◌, ◌↑◌, ◌≼◌, Proper}
 use Rattle.strength.specs.Shear.{AtMostR, AboveR}
 use Rattle.group.specs.Rows.{NotBelow, EveryRow, SomeRowAbove}
-use Rattle.joint.specs.declared.report.Verdict.{Verdict}
-use Rattle.joint.specs.declared.report.Verdict.TheVariants.{Fits, Overloaded}
-use Rattle.joint.specs.declared.report.Report.{Report}
+use Rattle.joint.specs.Answer.{Verdict}
+use Rattle.joint.specs.Answer.Verdict.{Fits, Overloaded}
+use Rattle.joint.specs.Answer.{Report}
 use Rattle.joint.specs.Design.{Carrier, Design, Each, Some}
 
 -- above 0

@@ -1,6 +1,6 @@
 // The use: how much of its capacity a joint's force takes, in ten-thousandths (01, 'Rows, share and use').
-ghost use Rattle.std.specs.Prelude.{◌≡◌, ◌+◌, ◌<◌, ◌≤◌, max};
-ghost use Rattle.joint.specs.Returned.{ceiling_of, scaled_force_of, total_use_of, row_use_of, use_of, RowWithin, DemandWithin};
+ghost use Rattle.std.specs.Prelude.{◌≡◌, ◌≤◌};
+ghost use Rattle.joint.specs.Returned.{scaled_force_of, total_use_of, row_use_of, use_of, RowWithin, DemandWithin};
 
 use group::member::Taken;
 use strength::roots;
@@ -31,18 +31,6 @@ pub struct Demand {
     pub capacity: u64,
 }
 
-// a / b rounded up, or `low` where that is greater.
-fn ceiling_from(low: u64, a: u64, b: u64) -> u64
-    requires { (0 < b) × (a + b < 18446744073709551616) }
-    ensures { result ≡ max low (ceiling_of a b) }
-{
-    let up = (a + (b - 1)) / b;
-    if up < low {
-        return low;
-    }
-    up
-}
-
 // The force in parts of a newton, rounded up, from its square.
 fn scaled_force(total: u64) -> u64
     requires { total ≤ 2000000000000 }
@@ -51,37 +39,35 @@ fn scaled_force(total: u64) -> u64
     roots::whole_square_root(PARTS_SQUARED * total) + 1
 }
 
-// The use by the whole force.
-fn total_use(d: Demand) -> u64
-    requires { DemandWithin d }
-    ensures { result ≡ total_use_of d }
-{
-    ceiling_from(
-        0,
-        BY_TOTAL * scaled_force(d.total),
-        PARTS * (d.planes2 * d.kmod) * d.capacity,
-    )
-}
+// `DemandWithin` is no ghost field: the definitions make demands of values before these are tested.
+impl Demand {
+    // The use by the whole force.
+    fn total_use(self) -> u64
+        requires { DemandWithin self }
+        ensures { result ≡ total_use_of self }
+    {
+        let force = BY_TOTAL * scaled_force(self.total);
+        force.div_ceil(PARTS * (self.planes2 * self.kmod) * self.capacity)
+    }
 
-// The use by the force along one member in its rows, or `low` where that is greater.
-fn row_use(low: u64, d: Demand, m: Taken) -> u64
-    requires demand_within { DemandWithin d }
-    requires row_within { RowWithin m }
-    ensures { result ≡ max low (row_use_of d m) }
-{
-    ceiling_from(
-        low,
-        BY_ROW * m.along,
-        d.planes2 * (d.kmod / KMOD_STEP) * m.share * d.capacity,
-    )
-}
+    // The use by the force along one member in its rows.
+    fn row_use(self, m: Taken) -> u64
+        requires demand_within { DemandWithin self }
+        requires row_within { RowWithin m }
+        ensures { result ≡ row_use_of self m }
+    {
+        let force = BY_ROW * m.along;
+        force.div_ceil(self.planes2 * (self.kmod / KMOD_STEP) * m.share * self.capacity)
+    }
 
-// The greatest of the three.
-pub(crate) fn use_ten_thousandths(d: Demand) -> u64
-    requires { DemandWithin d }
-    ensures { result ≡ use_of d }
-{
-    let member1 = d.member1;
-    let member2 = d.member2;
-    row_use(row_use(total_use(d), d, member1), d, member2)
+    // The greatest of the three.
+    pub(crate) fn use_ten_thousandths(self) -> u64
+        requires { DemandWithin self }
+        ensures { result ≡ use_of self }
+    {
+        let by_total = self.total_use();
+        by_total
+            .max(self.row_use(self.member1))
+            .max(self.row_use(self.member2))
+    }
 }

@@ -1,6 +1,7 @@
 // The drill plan: refusals 10 to 12, by crate `spacing`.
 ghost use Rattle.std.specs.Prelude.{◌≡◌};
 ghost use Rattle.spacing.specs.Spacing.{Given};
+ghost use Rattle.joint.specs.Told.{plan_told};
 ghost use Rattle.joint.specs.Refusal.{spaced, drill_fault};
 
 use crate::{Member, Values};
@@ -9,33 +10,38 @@ use spacing::verdict::Fault;
 use spacing::view::Piece;
 
 // A member as the spacing rules take it.
-pub(crate) fn spaced(m: Member) -> Piece
-    ensures { result ≡ spaced m }
-{
-    let outline = m.outline;
-    Piece {
-        grain: m.grain,
-        x0: outline.x0,
-        y0: outline.y0,
-        x1: outline.x1,
-        y1: outline.y1,
+impl From<Member> for Piece {
+    ghost from_gives = { λ m piece. piece ≡ spaced m };
+
+    fn from(m: Member) -> Piece {
+        Piece {
+            grain: m.grain,
+            x0: m.outline.x0,
+            y0: m.outline.y0,
+            x1: m.outline.x1,
+            y1: m.outline.y1,
+        }
     }
 }
 
 // The first fault of values that passed refusals 1 to 9.
-pub(crate) fn first_fault(v: Values) -> Fault
-    requires { Given v.dowel.diameter v.loads.fx v.loads.fy v.positions.n }
-    ensures { result ≡ drill_fault v }
+pub(crate) fn check(v: &Values) -> Result<(), Fault>
+    requires { Given v.now.dowel.diameter v.now.loads.fx v.now.loads.fy v.now.positions.n }
+    ensures { plan_told result ≡ drill_fault v.now }
 {
-    let members = v.members;
-    let dowel = v.dowel;
-    let loads = v.loads;
-    let positions = v.positions;
-    let x = positions.x;
-    let y = positions.y;
-    let n = positions.n;
-    let d = dowel.diameter as u64;
-    let member1 = spaced(members.member1);
-    let member2 = spaced(members.member2);
-    verdict::spacing_verdict(member1, member2, d, loads.fx, loads.fy, x, y, n)
+    let fault = verdict::spacing_verdict(
+        v.members.member1.into(),
+        v.members.member2.into(),
+        v.dowel.diameter as u64,
+        v.loads.fx,
+        v.loads.fy,
+        v.positions.x,
+        v.positions.y,
+        v.positions.n,
+    );
+    if fault.number == 0 {
+        Ok(())
+    } else {
+        Err(fault)
+    }
 }

@@ -4,7 +4,7 @@ ghost use Rattle.strength.specs.Shear.{PlaneWithin};
 ghost use Rattle.strength.specs.Working.{capacity_of};
 ghost use Rattle.spacing.specs.Spacing.{Given};
 ghost use Rattle.joint.specs.DesignOf.{plane_member, plane_in};
-ghost use Rattle.joint.specs.Use.{verdict_of};
+ghost use Rattle.joint.specs.Told.{told};
 ghost use Rattle.joint.specs.Returned.{
   DemandWithin,
   PlaneGiven,
@@ -17,40 +17,43 @@ ghost use Rattle.joint.specs.Returned.{
 };
 
 use crate::demand::Demand;
-use crate::report::{Report, Verdict};
-use crate::{Dowel, Loads, Member, Members, Positions, Values, demand, drill};
+use crate::report::{Figures, Judgement};
+use crate::{Member, Values};
 use group::member;
 use group::member::Both;
 use spacing::force;
-use strength::{capacity, plane};
+use strength::capacity;
+use strength::plane::{Plane, Timber};
 
 // A use of the whole capacity, in ten-thousandths.
 const WHOLE: u64 = 10000;
 
 // What the use takes of both members.
-fn taken_of(members: Members, dowel: Dowel, loads: Loads, positions: Positions) -> Both
-    requires { Given dowel.diameter loads.fx loads.fy positions.n × (6 ≤ dowel.diameter) × (1 ≤ positions.n) }
-    ensures { result ≡ taken_of members dowel loads positions }
+fn taken_of(v: &Values) -> Both
+    requires { Given v.now.dowel.diameter v.now.loads.fx v.now.loads.fy v.now.positions.n × (6 ≤ v.now.dowel.diameter) × (1 ≤ v.now.positions.n) }
+    ensures { result ≡ taken_of v.now.members v.now.dowel v.now.loads v.now.positions }
 {
-    let x = positions.x;
-    let y = positions.y;
-    let n = positions.n;
-    let d = dowel.diameter as u64;
-    let first = drill::spaced(members.member1);
-    let second = drill::spaced(members.member2);
-    member::both_taken(first, second, d, loads.fx, loads.fy, x, y, n)
+    member::both_taken(
+        v.members.member1.into(),
+        v.members.member2.into(),
+        v.dowel.diameter as u64,
+        v.loads.fx,
+        v.loads.fy,
+        v.positions.x,
+        v.positions.y,
+        v.positions.n,
+    )
 }
 
 // A member in the shear plane.
-fn plane_member(diameter: u8, m: Member, along: u64, total: u64) -> plane::Timber
+fn plane_member(diameter: u8, m: &Member, along: u64, total: u64) -> Timber
     requires { along ≤ 1000000 }
-    ensures { result ≡ plane_member diameter m along total }
+    ensures { result ≡ plane_member diameter m.now along total }
 {
     let wood = codes::wood_of(m.class);
-    let kind = wood.kind;
-    plane::Timber {
+    Timber {
         density: wood.density,
-        k90: codes::k90(kind, diameter),
+        k90: codes::k90(wood.kind, diameter),
         along: along * along,
         total,
         thickness: m.thickness as u64,
@@ -58,22 +61,18 @@ fn plane_member(diameter: u8, m: Member, along: u64, total: u64) -> plane::Timbe
 }
 
 // The capacity of a shear plane in thousandths of a newton.
-fn capacity_of(members: Members, dowel: Dowel, total: u64, along1: u64, along2: u64) -> u64
-    requires plane_within { PlaneWithin (plane_in members dowel total along1 along2) }
-    requires along1_bound { (along1 ≤ 1000000) × (along2 ≤ 1000000) }
-    ensures { result ≡ capacity_of (plane_in members dowel total along1 along2) }
+fn capacity_of(v: &Values, total: u64, along1: u64, along2: u64) -> u64
+    requires plane_within { PlaneWithin (plane_in v.now.members v.now.dowel total along1 along2) }
+    requires along_small { (along1 ≤ 1000000) × (along2 ≤ 1000000) }
+    ensures { result ≡ capacity_of (plane_in v.now.members v.now.dowel total along1 along2) }
 {
-    let member1 = members.member1;
-    let member2 = members.member2;
-    let timber1 = plane_member(dowel.diameter, member1, along1, total);
-    let timber2 = plane_member(dowel.diameter, member2, along2, total);
-    let steel = codes::value_of(codes::steel_strength(dowel.steel));
-    capacity::capacity_thousandths(plane::Plane {
-        member1: timber1,
-        member2: timber2,
-        diameter: dowel.diameter as u64,
-        steel,
-        planes: members.planes as u64,
+    let diameter = v.dowel.diameter;
+    capacity::capacity_thousandths(Plane {
+        member1: plane_member(diameter, &v.members.member1, along1, total),
+        member2: plane_member(diameter, &v.members.member2, along2, total),
+        diameter: diameter as u64,
+        steel: codes::value_of(codes::steel_strength(v.dowel.steel)),
+        planes: v.members.planes as u64,
     })
 }
 
@@ -89,63 +88,45 @@ fn twice_planes(n: usize, planes: u8) -> u64
 }
 
 // What the use depends on.
-fn demand_of(members: Members, dowel: Dowel, loads: Loads, n: usize, taken: Both) -> Demand
-    requires { PlaneGiven members dowel loads taken.member1.along taken.member2.along × (n ≤ 64) }
-    ensures { result ≡ demand_in members dowel loads n taken }
+fn demand_of(v: &Values, taken: Both) -> Demand
+    requires { PlaneGiven v.now.members v.now.dowel v.now.loads taken.member1.along taken.member2.along × (v.now.positions.n ≤ 64) }
+    ensures { result ≡ demand_in v.now.members v.now.dowel v.now.loads v.now.positions.n taken }
 {
-    let member1 = taken.member1;
-    let member2 = taken.member2;
+    let loads = v.loads;
     let total = force::squared_force(loads.fx, loads.fy);
-    let capacity = capacity_of(members, dowel, total, member1.along, member2.along);
     Demand {
         total,
-        member1,
-        member2,
-        planes2: twice_planes(n, members.planes),
+        member1: taken.member1,
+        member2: taken.member2,
+        planes2: twice_planes(v.positions.n, v.members.planes),
         kmod: codes::value_of(codes::kmod_hundredths(loads.service_class, loads.duration)),
-        capacity,
+        capacity: capacity_of(v, total, taken.member1.along, taken.member2.along),
     }
 }
 
-fn verdict_of(usage: u64) -> Verdict
-    ensures { result ≡ verdict_of usage }
-{
-    if usage <= WHOLE {
-        return Verdict::Fits;
-    }
-    Verdict::Overloaded
-}
-
-// The report on a joint of this demand and row share.
-fn report_of(d: Demand, share: u64) -> Report
+// What a joint of this demand and row share is told.
+fn judgement_of(d: Demand, share: u64) -> Judgement
     requires { DemandWithin d }
-    ensures { result ≡ report_with d share }
+    ensures { told result ≡ report_with d share }
 {
-    let usage = demand::use_ten_thousandths(d);
-    Report {
-        verdict: verdict_of(usage),
-        number: 0,
-        member: 0,
-        first: 0,
-        second: 0,
+    let usage = d.use_ten_thousandths();
+    let figures = Figures {
         usage,
         capacity: capacity::whole_newtons(d.capacity),
         share,
+    };
+    if usage <= WHOLE {
+        Judgement::Fits(figures)
+    } else {
+        Judgement::Overloaded(figures)
     }
 }
 
-// The report on an accepted record.
-pub(crate) fn answer(v: Values) -> Report
-    requires { Passed v }
-    ensures { result ≡ answered v }
+// What an accepted record is told.
+pub(crate) fn judgement(v: &Values) -> Judgement
+    requires { Passed v.now }
+    ensures { told result ≡ answered v.now }
 {
-    let members = v.members;
-    let dowel = v.dowel;
-    let loads = v.loads;
-    let positions = v.positions;
-    let taken = taken_of(members, dowel, loads, positions);
-    report_of(
-        demand_of(members, dowel, loads, positions.n, taken),
-        taken.share,
-    )
+    let taken = taken_of(v);
+    judgement_of(demand_of(v, taken), taken.share)
 }

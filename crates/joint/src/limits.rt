@@ -1,11 +1,11 @@
 // The limits of a record's values: refusals 7 to 9.
 ghost use Rattle.std.specs.Prelude.{◌≡◌, ◌≤◌};
-ghost use Rattle.joint.specs.Refusal.{between, member_within, coordinates, positions_within, loads_within, outline_empty, first_holding};
-ghost use Rattle.joint.specs.Stage.{stage};
+ghost use Rattle.joint.specs.Refusal.{member_within, coordinates, positions_within, loads_within, outline_empty, first_holding};
 ghost use Rattle.joint.specs.Refusal.{value_tests};
+ghost use Rattle.joint.specs.Told.{refusal_in};
 
-use crate::refusals::{EMPTY_OUTLINE, FIELD_OUTSIDE, NO_FORCE};
-use crate::{Loads, MOST_DOWELS, Member, Outline, Positions, Stage, Values};
+use crate::refusals::Refusal;
+use crate::{Loads, MOST_DOWELS, Member, Outline, Positions, Values};
 use codes::is_class;
 use numbers::{is_coordinate, is_force};
 
@@ -36,57 +36,35 @@ const LEAST_DIAMETER: u8 = 6;
 
 const MOST_DIAMETER: u8 = 30;
 
-fn is_between(low: u8, high: u8, n: u8) -> bool
-    ensures { result ≡ between low high n }
-{
-    (low <= n) & (n <= high)
-}
-
-fn member_within(m: Member) -> bool
-    ensures { result ≡ member_within m }
+fn member_within(m: &Member) -> bool
+    ensures { result ≡ member_within m.now }
 {
     let o = m.outline;
     is_class(m.class)
-        & is_between(ALONG_X, ALONG_Y, m.grain)
-        & ((LEAST_THICKNESS <= m.thickness) & (m.thickness <= MOST_THICKNESS))
+        & (ALONG_X..=ALONG_Y).contains(&m.grain)
+        & (LEAST_THICKNESS..=MOST_THICKNESS).contains(&m.thickness)
         & (is_coordinate(o.x0) & is_coordinate(o.y0) & is_coordinate(o.x1) & is_coordinate(o.y1))
 }
 
 // The first n of the numbers are coordinates.
-fn are_coordinates(l: [i32; MOST_DOWELS], n: usize) -> bool
+fn are_coordinates(l: &[i32; MOST_DOWELS], n: usize) -> bool
     requires { n ≤ 64 }
-    ensures { result ≡ coordinates l n }
+    ensures { result ≡ coordinates l.now n }
 {
-    let mut i = 0;
-    while i < n {
-        if !is_coordinate(l[i]) {
-            return false;
-        }
-        i += 1;
-    }
-    true
+    l[..n].iter().all(|z| is_coordinate(*z))
 }
 
-fn positions_within(p: Positions) -> bool
-    ensures { result ≡ positions_within p }
+fn positions_within(p: &Positions) -> bool
+    ensures { result ≡ positions_within p.now }
 {
-    let n = p.n;
-    if n < 1 {
-        return false;
-    }
-    if MOST_DOWELS < n {
-        return false;
-    }
-    let x = p.x;
-    let y = p.y;
-    are_coordinates(x, n) & are_coordinates(y, n)
+    (1..=MOST_DOWELS).contains(&p.n) && are_coordinates(&p.x, p.n) && are_coordinates(&p.y, p.n)
 }
 
-fn loads_within(l: Loads) -> bool
-    ensures { result ≡ loads_within l }
+fn loads_within(l: &Loads) -> bool
+    ensures { result ≡ loads_within l.now }
 {
-    is_between(FIRST_CODE, LAST_SERVICE_CLASS, l.service_class)
-        & is_between(FIRST_CODE, LAST_DURATION, l.duration)
+    (FIRST_CODE..=LAST_SERVICE_CLASS).contains(&l.service_class)
+        & (FIRST_CODE..=LAST_DURATION).contains(&l.duration)
         & is_force(l.fx)
         & is_force(l.fy)
 }
@@ -94,32 +72,29 @@ fn loads_within(l: Loads) -> bool
 fn outline_empty(o: Outline) -> bool
     ensures { result ≡ outline_empty o }
 {
-    (o.x1 <= o.x0) | (o.y1 <= o.y0)
+    o.x1 <= o.x0 || o.y1 <= o.y0
 }
 
-// Refusals 7 to 9.
-pub(crate) fn check_values(v: Values) -> Stage
-    ensures { result ≡ stage (first_holding (value_tests v)) }
+// Refusals 7 to 9: the first that values have, whether a record has them or a writer is handed them.
+pub fn check_values(v: &Values) -> Result<(), Refusal>
+    ensures { refusal_in result ≡ first_holding (value_tests v.now) }
 {
-    let members = v.members;
-    let dowel = v.dowel;
-    let loads = v.loads;
-    let within = is_between(LEAST_PLANES, MOST_PLANES, members.planes)
-        & member_within(members.member1)
-        & member_within(members.member2)
-        & (is_between(LEAST_DIAMETER, MOST_DIAMETER, dowel.diameter)
-            & is_between(FIRST_CODE, LAST_STEEL, dowel.steel))
-        & positions_within(v.positions)
-        & loads_within(loads);
-    let empty = outline_empty(members.member1.outline) | outline_empty(members.member2.outline);
+    let within = (LEAST_PLANES..=MOST_PLANES).contains(&v.members.planes)
+        & member_within(&v.members.member1)
+        & member_within(&v.members.member2)
+        & ((LEAST_DIAMETER..=MOST_DIAMETER).contains(&v.dowel.diameter)
+            & (FIRST_CODE..=LAST_STEEL).contains(&v.dowel.steel))
+        & positions_within(&v.positions)
+        & loads_within(&v.loads);
+    let empty = outline_empty(v.members.member1.outline) | outline_empty(v.members.member2.outline);
     if !within {
-        return Stage::Refused(FIELD_OUTSIDE);
+        return Err(Refusal::FieldOutside);
     }
     if empty {
-        return Stage::Refused(EMPTY_OUTLINE);
+        return Err(Refusal::EmptyOutline);
     }
-    if (loads.fx == 0) & (loads.fy == 0) {
-        return Stage::Refused(NO_FORCE);
+    if v.loads.fx == 0 && v.loads.fy == 0 {
+        return Err(Refusal::NoForce);
     }
-    Stage::Passed
+    Ok(())
 }

@@ -1,5 +1,5 @@
 // A record's values, part by part.
-ghost use Rattle.std.specs.Prelude.{◌≡◌, ◌+◌, ◌*◌, ◌≤◌, min, length};
+ghost use Rattle.std.specs.Prelude.{◌≡◌, ◌+◌, ◌*◌, ◌≤◌, length};
 ghost use Rattle.numbers.specs.Numbers.{u8_at};
 ghost use Rattle.joint.specs.Layout.{member_at, members_in, dowel_in, column, positions_in, loads_in, values_of};
 ghost use Rattle.joint.specs.Stage.{LaidOut, eighths};
@@ -50,25 +50,14 @@ fn dowel_in(part: &[u8]) -> Dowel
     }
 }
 
-// The lesser of n and the places of an array.
-fn places(n: usize) -> usize
-    ensures { result ≡ min n 64 }
-{
-    if n < MOST_DOWELS { n } else { MOST_DOWELS }
-}
-
 // Every eighth byte from `at` on starts a dowel's number.
 fn column_of(part: &[u8], at: usize, n: usize) -> [i32; MOST_DOWELS]
     requires { (at ≤ 6) × (2 + 8 * n ≤ length part.now) }
     ensures { result ≡ column (eighths part.now at) n }
 {
-    let held = places(n);
     let mut l = [0i32; MOST_DOWELS];
-    let mut i = 0;
-    while i < held {
-        let z = i32_at(part, at + POSITION_BYTES * i);
-        l[i] = z;
-        i += 1;
+    for i in 0..n.min(MOST_DOWELS) {
+        l[i] = i32_at(part, at + POSITION_BYTES * i);
     }
     l
 }
@@ -79,9 +68,11 @@ fn positions_in(part: &[u8]) -> Positions
     ensures { result ≡ positions_in part.now }
 {
     let n = part[1] as usize;
-    let x = column_of(part, FIRST_X, n);
-    let y = column_of(part, FIRST_Y, n);
-    Positions { n, x, y }
+    Positions {
+        n,
+        x: column_of(part, FIRST_X, n),
+        y: column_of(part, FIRST_Y, n),
+    }
 }
 
 // Kind, service class, duration, then fx and fy.
@@ -101,15 +92,11 @@ pub(crate) fn values_of(bytes: &[u8], parts: Parts) -> Values
     requires { LaidOut bytes.now parts }
     ensures { result ≡ values_of bytes.now }
 {
-    let members = parts.members;
-    let dowel = parts.dowel;
-    let positions = parts.positions;
-    let loads = parts.loads;
     Values {
         version: u16_at(bytes, VERSION_AT),
-        members: members_in(stretch(bytes, members)),
-        dowel: dowel_in(stretch(bytes, dowel)),
-        positions: positions_in(stretch(bytes, positions)),
-        loads: loads_in(stretch(bytes, loads)),
+        members: members_in(stretch(bytes, parts.members)),
+        dowel: dowel_in(stretch(bytes, parts.dowel)),
+        positions: positions_in(stretch(bytes, parts.positions)),
+        loads: loads_in(stretch(bytes, parts.loads)),
     }
 }

@@ -12,15 +12,16 @@ pub const FIRST_PAIR: usize = 4;
 
 pub const HEADER_BYTES: usize = 20;
 
-// The kinds of parts, and the bytes of those that have one length only.
-pub const MEMBERS: u8 = 1;
+// The kinds of parts: a part's first byte.
+#[derive(Clone, Copy, PartialEq, Eq, Debug)]
+pub enum Kind {
+    Members = 1,
+    Dowel = 2,
+    Positions = 3,
+    Loads = 4,
+}
 
-pub const DOWEL: u8 = 2;
-
-pub const POSITIONS: u8 = 3;
-
-pub const LOADS: u8 = 4;
-
+// The bytes of the parts that have one length only.
 pub const MEMBERS_BYTES: usize = 42;
 
 pub const DOWEL_BYTES: usize = 3;

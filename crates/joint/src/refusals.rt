@@ -1,21 +1,51 @@
-// The numbers of refusals 1 to 9 (01, 'Who causes which refusal'); 10 to 12 are those of crate `spacing`.
+// Why a record is turned away (01, 'Who causes which refusal').
+ghost use Rattle.std.specs.Prelude.{◌≡◌};
 
-// The script that writes the record.
-pub const TOO_FEW_BYTES: u8 = 1;
+use spacing::verdict::Fault;
 
-pub const OTHER_VERSION: u8 = 2;
+// Refusals 1 to 9: by the script that writes the record, and by the designer's data.
+#[derive(Clone, Copy, PartialEq, Eq, Debug)]
+pub enum Refusal {
+    TooFewBytes = 1,
+    OtherVersion = 2,
+    OtherPairCount = 3,
+    PairsAgainstRule = 4,
+    KindsNotOnce = 5,
+    WrongLength = 6,
+    FieldOutside = 7,
+    EmptyOutline = 8,
+    NoForce = 9,
+}
 
-pub const OTHER_PAIR_COUNT: u8 = 3;
+impl Refusal {
+    ghost use Rattle.joint.specs.Told.{number_of};
 
-pub const PAIRS_AGAINST_RULE: u8 = 4;
+    pub fn number(self) -> u8
+        ensures { result ≡ number_of self }
+    {
+        self as u8
+    }
+}
 
-pub const KINDS_NOT_ONCE: u8 = 5;
+// Any refusal: of the record as it is read, or, 10 to 12, of its drill plan.
+#[derive(Clone, Copy, PartialEq, Eq, Debug)]
+pub enum Rejection {
+    Record(Refusal),
+    Plan(Fault),
+}
 
-pub const WRONG_LENGTH: u8 = 6;
+impl From<Refusal> for Rejection {
+    ghost from_gives = { λ refusal r. r ≡ Record refusal };
 
-// The designer's data.
-pub const FIELD_OUTSIDE: u8 = 7;
+    fn from(refusal: Refusal) -> Rejection {
+        Rejection::Record(refusal)
+    }
+}
 
-pub const EMPTY_OUTLINE: u8 = 8;
+impl From<Fault> for Rejection {
+    ghost from_gives = { λ fault r. r ≡ Plan fault };
 
-pub const NO_FORCE: u8 = 9;
+    fn from(fault: Fault) -> Rejection {
+        Rejection::Plan(fault)
+    }
+}

@@ -1,0 +1,68 @@
+-- 01, 'When an answer is an enum, the promises use a definition that gives this paper's number and values for each case.'
+use Rattle.std.specs.Prelude.{ℕ, Result, Ok, Err}
+use Rattle.spacing.specs.Verdict.{fault}
+use Rattle.spacing.specs.declared.verdict.Fault.{Fault}
+use Rattle.joint.specs.declared.places.Kind.{Kind}
+use Rattle.joint.specs.declared.places.Kind.TheVariants.{Members, Dowel, Positions, Loads}
+use Rattle.joint.specs.declared.Values.{Values}
+use Rattle.joint.specs.declared.refusals.Refusal.{Refusal}
+use Rattle.joint.specs.declared.refusals.Refusal.TheVariants.{TooFewBytes, OtherVersion, OtherPairCount, PairsAgainstRule, KindsNotOnce, WrongLength, FieldOutside, EmptyOutline, NoForce}
+use Rattle.joint.specs.declared.refusals.Rejection.{Rejection}
+use Rattle.joint.specs.declared.refusals.Rejection.TheVariants.{Record, Plan}
+use Rattle.joint.specs.declared.report.Figures.{Figures}
+use Rattle.joint.specs.declared.report.Judgement.{Judgement}
+use Rattle.joint.specs.declared.report.Judgement.TheVariants.{Fits, Overloaded, Refused}
+use Rattle.joint.specs.Answer.{Reading, Outcome, Report, Verdict}
+use Rattle.joint.specs.Answer.Verdict.{Fits as FitsVerdict, Overloaded as OverloadedVerdict}
+use Rattle.joint.specs.Refusal.{zero_values, outcome}
+use Rattle.joint.specs.Returned.{unanswered}
+
+-- 'A part's first byte is its kind.'
+abbrev pub kind_code : Kind → ℕ
+kind_code Members = 1
+kind_code Dowel = 2
+kind_code Positions = 3
+kind_code Loads = 4
+
+-- 01's number of each refusal
+abbrev pub number_of : Refusal → ℕ
+number_of TooFewBytes = 1
+number_of OtherVersion = 2
+number_of OtherPairCount = 3
+number_of PairsAgainstRule = 4
+number_of KindsNotOnce = 5
+number_of WrongLength = 6
+number_of FieldOutside = 7
+number_of EmptyOutline = 8
+number_of NoForce = 9
+
+-- of an answer: 0 where nothing is refused
+abbrev pub refusal_in : {A : Type 0} → Result A Refusal → ℕ
+refusal_in (Ok a) = 0
+refusal_in (Err r) = number_of r
+
+abbrev pub reading : Result Values Refusal → Reading
+reading (Ok v) = record { number = 0; values = v }
+reading (Err r) = record { number = number_of r; values = zero_values }
+
+-- 'For 1 to 9 the place is 0, 0, 0.'
+abbrev pub fault_in : Rejection → Fault
+fault_in (Record r) = fault (number_of r) 0 0 0
+fault_in (Plan f) = f
+
+abbrev pub plan_told : Result (Unit {0}) Fault → Fault
+plan_told (Ok _) = fault 0 0 0 0
+plan_told (Err f) = f
+
+abbrev pub outcome_in : Result Values Rejection → Outcome
+outcome_in (Ok v) = outcome (fault 0 0 0 0) v
+outcome_in (Err r) = outcome (fault_in r) zero_values
+
+-- a verdict with its figures
+abbrev pub report : Verdict → Figures → Report
+report v f = record { verdict = v; number = 0; member = 0; first = 0; second = 0; usage = f.usage; capacity = f.capacity; share = f.share }
+
+abbrev pub told : Judgement → Report
+told (Fits f) = report FitsVerdict f
+told (Overloaded f) = report OverloadedVerdict f
+told (Refused r) = unanswered (fault_in r)
