@@ -13,11 +13,10 @@ use Rattle.spacing.specs.declared.view.Which.TheVariants.{Member1, Member2}
 use Rattle.spacing.specs.declared.view.Piece.{Piece}
 use Rattle.spacing.specs.declared.view.Frame.{Frame}
 use Rattle.spacing.specs.declared.view.View.{View}
-use Rattle.spacing.specs.declared.verdict.Fault.{Fault}
 use Rattle.spacing.specs.Search.{first_from, partner, first_pair}
 use Rattle.spacing.specs.Spacing.{along, across, force_in, view_of, square, squared_force, place, distance, too_close, end_too_near, Components}
 use Rattle.spacing.specs.Limits.{PairLimit, EndLimit, close_by, outside}
-use Rattle.spacing.specs.Verdict.{fault, one_dowel, pair_fault, end_fault, edge_fault, or_else}
+use Rattle.spacing.specs.Verdict.{Fault, fault, one_dowel, pair_fault, end_fault, edge_fault, or_else}
 use Rattle.spacing.proofs.Integers.{nat_abs_neg}
 
 -- ---- a whole limit tests what the rule tests

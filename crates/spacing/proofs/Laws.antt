@@ -12,10 +12,9 @@ use Rattle.spacing.specs.declared.view.Which.{Which}
 use Rattle.spacing.specs.declared.view.Which.TheVariants.{Member1, Member2}
 use Rattle.spacing.specs.declared.view.Piece.{Piece}
 use Rattle.spacing.specs.declared.view.Frame.{Frame}
-use Rattle.spacing.specs.declared.verdict.Fault.{Fault}
 use Rattle.spacing.specs.Search.{first_from, partner, first_pair, has_partner}
 use Rattle.spacing.specs.Spacing.{too_close, end_too_near, edge_too_near}
-use Rattle.spacing.specs.Verdict.{or_else, number_of, pair_fault, end_fault, edge_fault, verdict_in, member_verdict, spacing_verdict}
+use Rattle.spacing.specs.Verdict.{Fault, or_else, number_of, pair_fault, end_fault, edge_fault, verdict_in, member_verdict, spacing_verdict}
 use Rattle.spacing.specs.Says.{FirstPair, NoPair, FirstOne, NoOne, MemberSays, Says, JointSays}
 use Rattle.spacing.specs.Says.MemberSays.{close, end, edge, passes}
 use Rattle.spacing.specs.Says.JointSays.{member1, member2}

@@ -1,5 +1,5 @@
 // Each irrational limit of Table 8 as the least whole number of tenths that passes, found once a member.
-ghost use Rattle.std.specs.Prelude.{◌≡◌, max};
+ghost use Rattle.std.specs.Prelude.{◌≡◌};
 ghost use Rattle.spacing.specs.Spacing.{square, squared_force, Components};
 ghost use Rattle.spacing.specs.Limits.{Scale, LeastPart, PairLimit, EndLimit};
 
@@ -45,17 +45,8 @@ pub(crate) fn from_end(loaded: bool, d: u64, force: i32, sideways: i32) -> u64
     ensures { EndLimit loaded d (square sideways) (squared_force force sideways) result }
 {
     if loaded {
-        return greater(END * d, LOADED_END);
+        return (END * d).max(LOADED_END);
     }
     let total = squared_force(force, sideways);
-    greater(least_part(END * d, square(sideways), total), APART * d)
-}
-
-fn greater(a: u64, b: u64) -> u64
-    ensures { result ≡ max a b }
-{
-    if a < b {
-        return b;
-    }
-    a
+    least_part(END * d, square(sideways), total).max(APART * d)
 }
