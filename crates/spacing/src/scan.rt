@@ -3,23 +3,8 @@ ghost use Rattle.std.specs.Prelude.{◌≡◌, ◌<◌, ◌≤◌, MatchOption};
 ghost use Rattle.spacing.specs.Search.{FirstIs, PairIs, first_from, partner};
 ghost use Rattle.spacing.specs.Limits.{near_limit, close_by, outside};
 
+use crate::limit::{Least, Sides};
 use crate::signed;
-
-// What two dowels are to keep: one of the two distances.
-#[derive(Clone, Copy)]
-pub struct Least {
-    pub along: u64,
-    pub across: u64,
-}
-
-// Two ends or two edges, and the least distance from each.
-#[derive(Clone, Copy)]
-pub struct Sides {
-    pub low: i32,
-    pub high: i32,
-    pub under: u64,
-    pub over: u64,
-}
 
 impl Least {
     // Whether dowels i and j are nearer than both limits.

@@ -13,16 +13,25 @@ ghost use Rattle.spacing.specs.Verdict.{
   spacing_verdict,
 };
 
-use crate::limit::{self, APART};
-use crate::scan::{self, Least, Sides};
 use crate::view::{Piece, Plan, View, Which};
+use crate::{limit, scan};
 
 // A refusal with its place, dowels counted from 1.
 #[derive(Clone, Copy, PartialEq, Eq, Debug)]
 pub enum Fault {
-    DowelsTooClose { member: Which, first: u8, second: u8 },
-    EndTooNear { member: Which, dowel: u8 },
-    EdgeTooNear { member: Which, dowel: u8 },
+    DowelsTooClose {
+        member: Which,
+        first: u8,
+        second: u8,
+    },
+    EndTooNear {
+        member: Which,
+        dowel: u8,
+    },
+    EdgeTooNear {
+        member: Which,
+        dowel: u8,
+    },
 }
 
 impl Fault {
@@ -75,12 +84,7 @@ fn pair_fault(member: Which, v: &View, d: u64, count: usize) -> Result<(), Fault
     requires { Given d v.now.frame.force v.now.frame.sideways count }
     ensures { told result ≡ pair_fault (number_of member) v.now.frame d v.now.along v.now.across count }
 {
-    let frame = v.frame;
-    let least = Least {
-        along: limit::between_dowels(d, frame.force, frame.sideways),
-        across: APART * d,
-    };
-    match scan::first_close(&v.along, &v.across, count, least) {
+    match scan::first_close(&v.along, &v.across, count, limit::of_pairs(v.frame, d)) {
         None => Ok(()),
         Some((i, j)) => Err(Fault::DowelsTooClose {
             member,
@@ -95,14 +99,7 @@ fn end_fault(member: Which, v: &View, d: u64, count: usize) -> Result<(), Fault>
     requires { Given d v.now.frame.force v.now.frame.sideways count }
     ensures { told result ≡ end_fault (number_of member) v.now.frame d v.now.along count }
 {
-    let frame = v.frame;
-    let ends = Sides {
-        low: frame.low,
-        high: frame.high,
-        under: limit::from_end(frame.force < 0, d, frame.force, frame.sideways),
-        over: limit::from_end(frame.force > 0, d, frame.force, frame.sideways),
-    };
-    match scan::first_outside(&v.along, count, ends) {
+    match scan::first_outside(&v.along, count, limit::of_ends(v.frame, d)) {
         None => Ok(()),
         Some(i) => Err(Fault::EndTooNear {
             member,
@@ -116,14 +113,7 @@ fn edge_fault(member: Which, v: &View, d: u64, count: usize) -> Result<(), Fault
     requires { Given d v.now.frame.force v.now.frame.sideways count }
     ensures { told result ≡ edge_fault (number_of member) v.now.frame d v.now.across count }
 {
-    let frame = v.frame;
-    let edges = Sides {
-        low: frame.left,
-        high: frame.right,
-        under: APART * d,
-        over: APART * d,
-    };
-    match scan::first_outside(&v.across, count, edges) {
+    match scan::first_outside(&v.across, count, limit::of_edges(v.frame, d)) {
         None => Ok(()),
         Some(i) => Err(Fault::EdgeTooNear {
             member,
