@@ -1,11 +1,9 @@
 // What the use takes of the members, by their views.
-ghost use Rattle.std.specs.Prelude.{◌≡◌, ◌≤◌, min};
-ghost use Rattle.spacing.specs.Spacing.{Given};
+ghost use Rattle.std.specs.Prelude.{◌≤◌};
 ghost use Rattle.group.specs.Share.{TakenFrom, BothTaken};
 
 use crate::share;
-use spacing::view::{Piece, Which};
-use spacing::{signed, view};
+use spacing::view::{Piece, Plan, Which};
 
 // Tenths of a millimetre in one.
 const TENTHS: u64 = 10;
@@ -25,50 +23,24 @@ pub struct Both {
     pub share: u64,
 }
 
-fn lesser(a: u64, b: u64) -> u64
-    ensures { result ≡ min a b }
+fn one_taken(which: Which, m: Piece, plan: Plan) -> Taken
+    requires { (6 ≤ plan.diameter) × (1 ≤ plan.count) }
+    ensures { TakenFrom m plan.diameter plan.fx plan.fy plan.x plan.y plan.count result }
 {
-    if a < b { a } else { b }
-}
-
-fn one_taken(
-    which: Which,
-    m: Piece,
-    d: u64,
-    fx: i32,
-    fy: i32,
-    x: [i32; 64],
-    y: [i32; 64],
-    count: usize,
-) -> Taken
-    requires { Given d fx fy count × (6 ≤ d) × (1 ≤ count) }
-    ensures { TakenFrom m d fx fy x y count result }
-{
-    let view = view::view_of(which, m, fx, fy, x, y);
-    let frame = view.frame;
-    let along = view.along;
-    let across = view.across;
+    let d = plan.diameter;
+    let view = plan.view(which, m);
     Taken {
-        along: signed::size(frame.force),
-        share: share::member_share(d, TENTHS * d, along, across, count),
+        along: view.frame.force.unsigned_abs() as u64,
+        share: share::member_share(d, TENTHS * d, view.along, view.across, plan.count),
     }
 }
 
 // Of both members: where the grains agree they have the same rows and the same force along, and one root is taken.
-pub fn both_taken(
-    member1: Piece,
-    member2: Piece,
-    d: u64,
-    fx: i32,
-    fy: i32,
-    x: [i32; 64],
-    y: [i32; 64],
-    count: usize,
-) -> Both
-    requires { Given d fx fy count × (6 ≤ d) × (1 ≤ count) }
-    ensures { BothTaken member1 member2 d fx fy x y count result }
+pub fn both_taken(member1: Piece, member2: Piece, plan: Plan) -> Both
+    requires { (6 ≤ plan.diameter) × (1 ≤ plan.count) }
+    ensures { BothTaken member1 member2 plan.diameter plan.fx plan.fy plan.x plan.y plan.count result }
 {
-    let first = one_taken(Which::Member1, member1, d, fx, fy, x, y, count);
+    let first = one_taken(Which::Member1, member1, plan);
     if member1.grain == member2.grain {
         return Both {
             member1: first,
@@ -76,10 +48,10 @@ pub fn both_taken(
             share: first.share,
         };
     }
-    let second = one_taken(Which::Member2, member2, d, fx, fy, x, y, count);
+    let second = one_taken(Which::Member2, member2, plan);
     Both {
         member1: first,
         member2: second,
-        share: lesser(first.share, second.share),
+        share: first.share.min(second.share),
     }
 }

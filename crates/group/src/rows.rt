@@ -2,8 +2,6 @@
 ghost use Rattle.std.specs.Prelude.{◌≡◌, ◌<◌, ◌≤◌};
 ghost use Rattle.group.specs.Share.{within_reach, gap_on, seen_on, window_seen};
 
-use spacing::signed;
-
 // In tenths: at this distance a row passes every share, so a greater one need not be told apart from it.
 pub const FARTHEST: u64 = 200000;
 
@@ -26,10 +24,7 @@ pub struct Seen {
 fn within_reach(from: i32, to: i32, reach: u64) -> bool
     ensures { result ≡ within_reach from to reach }
 {
-    if from <= to {
-        return signed::apart(to, from) < reach;
-    }
-    false
+    from <= to && (to.abs_diff(from) as u64) < reach
 }
 
 // The lesser of the least distance so far and that of the last dowel to the next.
@@ -39,7 +34,7 @@ fn narrowed(seen: Seen, at: i32) -> u64
     if seen.number == 0 {
         return seen.least;
     }
-    let gap = signed::apart(at, seen.last);
+    let gap = at.abs_diff(seen.last) as u64;
     if gap < seen.least {
         return gap;
     }

@@ -19,7 +19,6 @@ ghost use Rattle.group.specs.Share.{
 
 use crate::rows::Row;
 use crate::{order, rows};
-use spacing::signed;
 use strength::roots;
 
 // Ten-thousandths of the whole.
@@ -118,7 +117,7 @@ fn same_start(starts: &[i32; 64], i: usize) -> bool
     if i == 0 {
         return false;
     }
-    signed::apart(starts[i - 1], starts[i]) == 0
+    starts[i - 1].abs_diff(starts[i]) == 0
 }
 
 // Of the windows from each of `starts` upwards the one that passes the fewest shares.

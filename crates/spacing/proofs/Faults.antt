@@ -13,11 +13,13 @@ use Rattle.spacing.specs.declared.view.Which.TheVariants.{Member1, Member2}
 use Rattle.spacing.specs.declared.view.Piece.{Piece}
 use Rattle.spacing.specs.declared.view.Frame.{Frame}
 use Rattle.spacing.specs.declared.view.View.{View}
-use Rattle.spacing.specs.declared.verdict.Fault.{Fault}
-use Rattle.spacing.specs.Search.{first_from, partner, first_pair}
+use Rattle.std.specs.Prelude.{Some}
+use Rattle.spacing.specs.declared.verdict.Fault.{Fault as Refusal}
+use Rattle.spacing.specs.declared.verdict.Fault.TheVariants.{DowelsTooClose, EndTooNear, EdgeTooNear}
+use Rattle.spacing.specs.Search.{partner, first_pair, PairIs}
 use Rattle.spacing.specs.Spacing.{along, across, force_in, view_of, square, squared_force, place, distance, too_close, end_too_near, Components}
 use Rattle.spacing.specs.Limits.{PairLimit, EndLimit, close_by, outside}
-use Rattle.spacing.specs.Verdict.{fault, one_dowel, pair_fault, end_fault, edge_fault, or_else}
+use Rattle.spacing.specs.Verdict.{Fault, fault, one_dowel, or_else, fault_of}
 use Rattle.spacing.proofs.Integers.{nat_abs_neg}
 
 -- ---- a whole limit tests what the rule tests
@@ -27,7 +29,7 @@ pub close_same :
 close_same v d along a b l =
     fun_ext λ i. fun_ext λ j. ap (λ t. not (t || leb (30 * d) (distance b i j))) (sym (l.decides (distance a i j)))
 
-end_same :
+pub end_same :
     (v : Frame) (d low high : ℕ) (a : List ℤ) →
     EndLimit (le_z (pos 1) (neg_ℤ v.force)) d (square v.sideways) (squared_force v.force v.sideways) low →
     EndLimit (le_z (pos 1) v.force) d (square v.sideways) (squared_force v.force v.sideways) high →
@@ -39,48 +41,27 @@ end_same v d low high a l h =
 picked : (i n : ℕ) (f g : Fault) → i < n → f ≡ cond (ltb i n) f g
 picked i n f g h = rw (lt-ltb i n h)
 
-passed : (i n : ℕ) (f g : Fault) → n ≤ i → g ≡ cond (ltb i n) f g
+pub passed : (i n : ℕ) (f g : Fault) → n ≤ i → g ≡ cond (ltb i n) f g
 passed i n f g h = rw (le-ltb i n h)
 
 pub pair_found :
-    (member : ℕ) (v : Frame) (d : ℕ) (a b : List ℤ) (n i j : ℕ) (test : ℕ → ℕ → Bool) → test ≡ too_close v d a b →
-    i ≡ first_pair test n → i < n → j ≡ partner test n i →
-    fault 10 member (i + 1) (j + 1) ≡ pair_fault member v d a b n
-unfolding pair_fault
-pair_found member v d a b n i j test s e h p =
-    rw (← s, ← e, ← p) (picked i n _ _ h)
+    (member n i j : ℕ) (pair : ℕ → ℕ → Bool) → PairIs (Some (i, j)) pair n →
+    fault 10 member (i + 1) (j + 1)
+    ≡ cond (ltb (first_pair pair n) n) (fault 10 member (first_pair pair n + 1) (partner pair n (first_pair pair n) + 1)) (fault 0 0 0 0)
+pair_found member n i j pair h = rw (← h.0, ← h.2) (picked i n _ _ h.1)
 
-pub no_pair :
-    (member : ℕ) (v : Frame) (d : ℕ) (a b : List ℤ) (n i : ℕ) (test : ℕ → ℕ → Bool) → test ≡ too_close v d a b →
-    i ≡ first_pair test n → n ≤ i → fault 0 0 0 0 ≡ pair_fault member v d a b n
-unfolding pair_fault
-no_pair member v d a b n i test s e h = rw (← s, ← e) (passed i n _ _ h)
-
-pub end_found :
-    (member : ℕ) (v : Frame) (d under over : ℕ) (a : List ℤ) (n i : ℕ) (r : Fault) (low high : ℤ) →
-    i ≡ first_from (outside low high under over a) 0 n → low ≡ v.low → high ≡ v.high →
-    EndLimit (le_z (pos 1) (neg_ℤ v.force)) d (square v.sideways) (squared_force v.force v.sideways) under →
-    EndLimit (le_z (pos 1) v.force) d (square v.sideways) (squared_force v.force v.sideways) over →
-    r ≡ one_dowel 11 member i n → r ≡ end_fault member v d a n
-unfolding end_fault
-end_found member v d under over a n i r low high e p q l h o =
-    o ∙ ap (λ k. one_dowel 11 member k n)
-    (e ∙ ap₂ (λ s t. first_from (outside s t under over a) 0 n) p q ∙ ap (λ t. first_from t 0 n) (end_same v d under over a l h))
-
-pub edge_found :
-    (member : ℕ) (v : Frame) (d : ℕ) (b : List ℤ) (n i : ℕ) (r : Fault) (left right : ℤ) →
-    i ≡ first_from (outside left right (30 * d) (30 * d) b) 0 n → left ≡ v.left → right ≡ v.right →
-    r ≡ one_dowel 12 member i n → r ≡ edge_fault member v d b n
-unfolding edge_fault
-edge_found member v d b n i r left right e p q o =
-    o ∙ ap (λ k. one_dowel 12 member k n) (e ∙ ap₂ (λ s t. first_from (outside s t (30 * d) (30 * d) b) 0 n) p q)
+pub one_found :
+    (number member first n i : ℕ) → (i ≡ first) × (i < n) → fault number member (i + 1) 0 ≡ one_dowel number member first n
+one_found number member first n i h = rw (← h.0) (picked i n _ _ h.1)
 
 -- ---- one fault after another
-pub the_first : (r f g : Fault) → r ≡ f → (r.number ≡ 0 → ⊥) → r ≡ or_else f g
-the_first r f g e h = rw (← e, ne_eqb r.number 0 h)
+pub the_first : (e : Refusal) (f g : Fault) → fault_of e ≡ f → fault_of e ≡ or_else f g
+the_first (DowelsTooClose member i j) f g h = rw (← h)
+the_first (EndTooNear member i) f g h = rw (← h)
+the_first (EdgeTooNear member i) f g h = rw (← h)
 
-pub the_second : (r f s g : Fault) → r ≡ f → r.number ≡ 0 → s ≡ g → s ≡ or_else f g
-the_second r f s g e h p = rw (← e, eq-eqb r.number 0 h) p
+pub the_second : (f s g : Fault) → fault 0 0 0 0 ≡ f → s ≡ g → s ≡ or_else f g
+the_second f s g h p = rw (← h) p
 
 -- ---- a member's own directions
 force_size : (which : Which) (z : ℤ) → nat_abs (force_in which z) ≡ nat_abs z

@@ -4,9 +4,10 @@ use mathlib.Core.Bool.{Bool, true, false, cond, true≢false, false≢true}
 use Prim.Native.Nat.{ℕ, zero, suc, ◌+◌, ◌-◌, ◌≤◌}
 use native.Mathlib.Nat.{lt_trans}
 use native.Mathlib.Omega.{arith}
+use borrow.Author.Tests.{lt-leb, le-leb}
 use lib.Dec.{T, ltb, leb, lit<, leb-zero}
 use lib.IntN.{ℤ, pos, negsuc, neg_ℤ, nat_abs, sub_ℕ, ◌+ℤ◌, ◌-ℤ◌, neg_ℤ-+ℤ, neg_ℤ-neg_ℤ, +ℤ_comm, +ℤ_idl, +ℤ_invr, -ℤ-+ℤ_cancel}
-use lib.Signed.{mag, non_neg, le_z}
+use lib.Signed.{mag, non_neg, le_z, lt_z}
 use mir.Syntax.{w32, w64}
 use mir.Val.{SFits, Fits, to_z, of_z}
 use mir.Facts.{to_z-of_z}
@@ -119,3 +120,14 @@ same_place p q h = sym (-ℤ-+ℤ_cancel p q) ∙ ap (λ z. z +ℤ q) (none_is_z
 
 pub no_distance : (p : ℤ) → nat_abs (p -ℤ p) ≡ 0
 no_distance p = ap nat_abs (+ℤ_invr p)
+
+-- ---- a component above or below 0 is one of at least 1
+pub above_zero : (z : ℤ) → lt_z (pos 0) z ≡ le_z (pos 1) z
+above_zero (pos zero) = refl
+above_zero (pos (suc n)) = refl
+above_zero (negsuc n) = refl
+
+pub below_zero : (z : ℤ) → lt_z z (pos 0) ≡ le_z (pos 1) (neg_ℤ z)
+below_zero (pos zero) = refl
+below_zero (pos (suc n)) = lt-leb (suc (suc n)) 0 (omega arith)
+below_zero (negsuc n) = sym (le-leb 1 (suc n) (omega arith))

@@ -12,58 +12,13 @@ use Rattle.spacing.specs.declared.view.Which.{Which}
 use Rattle.spacing.specs.declared.view.Which.TheVariants.{Member1, Member2}
 use Rattle.spacing.specs.declared.view.Piece.{Piece}
 use Rattle.spacing.specs.declared.view.Frame.{Frame}
-use Rattle.spacing.specs.declared.verdict.Fault.{Fault}
 use Rattle.spacing.specs.Search.{first_from, partner, first_pair, has_partner}
+use Rattle.spacing.proofs.Search.{Finds, finds}
 use Rattle.spacing.specs.Spacing.{too_close, end_too_near, edge_too_near}
-use Rattle.spacing.specs.Verdict.{or_else, number_of, pair_fault, end_fault, edge_fault, verdict_in, member_verdict, spacing_verdict}
+use Rattle.spacing.specs.Verdict.{Fault, or_else, number_of, pair_fault, end_fault, edge_fault, verdict_in, member_verdict, spacing_verdict}
 use Rattle.spacing.specs.Says.{FirstPair, NoPair, FirstOne, NoOne, MemberSays, Says, JointSays}
 use Rattle.spacing.specs.Says.MemberSays.{close, end, edge, passes}
 use Rattle.spacing.specs.Says.JointSays.{member1, member2}
-
--- r is the first of k, k + 1, .. below the end at which the test holds, or the end
-record Finds (test : ℕ → Bool) (k e r : ℕ) : Type 0 where
-  low : k ≤ r
-  high : r ≤ e
-  before : (j : ℕ) → k ≤ j → j < r → test j ≡ false
-  at : r < e → test r ≡ true
-
-here : (test : ℕ → Bool) (k e : ℕ) → k < e → test k ≡ true → Finds test k e k
-here test k e h t = record {
-  low = omega arith;
-  high = le_of_lt h;
-  before = λ j p q. absurd (omega arith);
-  at = λ p. t;
-}
-
-later : (test : ℕ → Bool) (k e r : ℕ) → test k ≡ false → Finds test (k + 1) e r → Finds test k e r
-later test k e r t f = record {
-  low = omega (arith, f.low);
-  high = f.high;
-  before = λ j p q. go j q (dec_le (k + 1) j) p;
-  at = f.at;
-}
-  where
-    go : (j : ℕ) → j < r → Dec (k + 1 ≤ j) → k ≤ j → test j ≡ false
-    go j q (yes h) p = f.before j h q
-    go j q (no h) p = let e : j ≡ k = omega (arith, lt_of_not-le h) in rw e t
-
-by_test :
-    (test : ℕ → Bool) (k e r : ℕ) (b : Bool) → test k ≡ b → k < e → Finds test (k + 1) e r → Finds test k e (cond b k r)
-by_test test k e r true t h f = here test k e h t
-by_test test k e r false t h f = later test k e r t f
-
-finds : (test : ℕ → Bool) (k left : ℕ) → Finds test k (k + left) (first_from test k left)
-unfolding first_from
-finds test k zero = record {
-  low = omega arith;
-  high = omega arith;
-  before = λ j p q. absurd (omega arith);
-  at = λ p. absurd (omega arith);
-}
-finds test k (suc left) =
-    let s : k + 1 + left ≡ k + suc left = omega arith in
-    by_test test k (k + suc left) (first_from test (k + 1) left) (test k) refl (omega arith)
-    (rw s at (finds test (k + 1) left))
 
 -- ---- one dowel
 module _ (bad : ℕ → Bool) (n : ℕ) where

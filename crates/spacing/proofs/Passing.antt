@@ -8,8 +8,8 @@ use Rattle.spacing.specs.declared.view.Which.{Which}
 use Rattle.spacing.specs.declared.view.Which.TheVariants.{Member1, Member2}
 use Rattle.spacing.specs.declared.view.Piece.{Piece}
 use Rattle.spacing.specs.declared.view.Frame.{Frame}
-use Rattle.spacing.specs.declared.verdict.Fault.{Fault}
 use Rattle.spacing.specs.Spacing.{along, across, frame_of, too_close}
+use Rattle.spacing.specs.Verdict.{Fault}
 use Rattle.spacing.specs.Says.{MemberSays, JointSays, NoPair}
 use Rattle.spacing.specs.Says.MemberSays.{close, end, edge, passes}
 use Rattle.spacing.specs.Says.JointSays.{member1, member2}

@@ -5,9 +5,8 @@ use Rattle.spacing.specs.declared.view.Which.{Which}
 use Rattle.spacing.specs.declared.view.Which.TheVariants.{Member1, Member2}
 use Rattle.spacing.specs.declared.view.Piece.{Piece}
 use Rattle.spacing.specs.declared.view.Frame.{Frame}
-use Rattle.spacing.specs.declared.verdict.Fault.{Fault}
 use Rattle.spacing.specs.Spacing.{along, across, frame_of, too_close, end_too_near, edge_too_near}
-use Rattle.spacing.specs.Verdict.{fault, number_of}
+use Rattle.spacing.specs.Verdict.{Fault, fault, number_of}
 
 -- of n dowels, i and j are the first bad pair, first by i, then by j
 pub record FirstPair (bad : ℕ → ℕ → Bool) (n i j : ℕ) : Type 0 where

@@ -1,12 +1,20 @@
 -- The verdict of a member: the first fault in the order 10, 11, 12 with its place (01, 'Who causes which refusal').
-use Rattle.std.specs.Prelude.{ℕ, ◌+◌, cond, List, ltb, eqb, ℤ}
+use Rattle.std.specs.Prelude.{ℕ, ◌+◌, cond, List, ltb, eqb, ℤ, Result, Ok, Err}
 use Rattle.spacing.specs.declared.view.Which.{Which}
 use Rattle.spacing.specs.declared.view.Which.TheVariants.{Member1, Member2}
 use Rattle.spacing.specs.declared.view.Piece.{Piece}
 use Rattle.spacing.specs.declared.view.Frame.{Frame}
-use Rattle.spacing.specs.declared.verdict.Fault.{Fault}
+use Rattle.spacing.specs.declared.verdict.Fault.{Fault as Refusal}
+use Rattle.spacing.specs.declared.verdict.Fault.TheVariants.{DowelsTooClose, EndTooNear, EdgeTooNear}
 use Rattle.spacing.specs.Spacing.{along, across, frame_of, too_close, end_too_near, edge_too_near}
 use Rattle.spacing.specs.Search.{first_from, partner, first_pair}
+
+-- A refusal 10, 11 or 12 with its place, dowels counted from 1; all 0 where the spacing passes.
+pub record Fault : Type 0 where
+  pub number : ℕ
+  pub member : ℕ
+  pub first : ℕ
+  pub second : ℕ
 
 abbrev pub fault : ℕ → ℕ → ℕ → ℕ → Fault
 fault number member first second = record { number = number; member = member; first = first; second = second }
@@ -49,3 +57,13 @@ member_verdict which m d fx fy x y n =
 unfoldable pub spacing_verdict : Piece → Piece → ℕ → ℤ → ℤ → List ℤ → List ℤ → ℕ → Fault
 spacing_verdict m₁ m₂ d fx fy x y n =
     or_else (member_verdict Member1 m₁ d fx fy x y n) (member_verdict Member2 m₂ d fx fy x y n)
+
+-- ---- what the answers of the code say in these numbers
+abbrev pub fault_of : Refusal → Fault
+fault_of (DowelsTooClose member i j) = fault 10 (number_of member) i j
+fault_of (EndTooNear member i) = fault 11 (number_of member) i 0
+fault_of (EdgeTooNear member i) = fault 12 (number_of member) i 0
+
+abbrev pub told : Result (Unit {0}) Refusal → Fault
+told (Ok _) = fault 0 0 0 0
+told (Err f) = fault_of f

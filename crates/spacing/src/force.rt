@@ -2,14 +2,12 @@
 ghost use Rattle.std.specs.Prelude.{◌≡◌, ◌≤◌, nat_abs};
 ghost use Rattle.spacing.specs.Spacing.{square, squared_force};
 
-use crate::signed;
-
 // The squared size of a component.
 pub(crate) fn square(f: i32) -> u64
     requires { nat_abs f ≤ 1000000 }
     ensures { result ≡ square f }
 {
-    let size = signed::size(f);
+    let size = f.unsigned_abs() as u64;
     size * size
 }
 

@@ -4,6 +4,6 @@
 pub mod force;
 mod limit;
 mod scan;
-pub mod signed;
+mod signed;
 pub mod verdict;
 pub mod view;

@@ -1,85 +1,60 @@
-// Searches through the dowels, by comparisons with whole limits only. Dowels are counted from 0; `count` says that none was found.
-ghost use Rattle.std.specs.Prelude.{◌≡◌, ◌<◌, ◌≤◌, nat_abs, ◌-ℤ◌};
-ghost use Rattle.spacing.specs.Search.{first_from, partner, first_pair};
-ghost use Rattle.spacing.specs.Limits.{nearer_by, near_limit, close_by, outside};
+// Searches through the dowels, by comparisons with whole limits only. Dowels are counted from 0.
+ghost use Rattle.std.specs.Prelude.{◌≡◌, ◌<◌, ◌≤◌, MatchOption};
+ghost use Rattle.spacing.specs.Search.{FirstIs, PairIs, first_from, partner};
+ghost use Rattle.spacing.specs.Limits.{near_limit, close_by, outside};
 
+use crate::limit::{Least, Sides};
 use crate::signed;
 
-// Whether two dowels, at p and q along and at s and t across, are nearer than both limits.
-fn nearer(p: i32, q: i32, s: i32, t: i32, along: u64, across: u64) -> bool
-    ensures { result ≡ nearer_by along across (nat_abs (p -ℤ q)) (nat_abs (s -ℤ t)) }
-{
-    if signed::apart(p, q) < along {
-        return signed::apart(s, t) < across;
+impl Least {
+    // Whether dowels i and j are nearer than both limits.
+    fn close(self, a: &[i32; 64], b: &[i32; 64], i: usize, j: usize) -> bool
+        requires { (i < 64) × (j < 64) }
+        ensures { result ≡ close_by self.along self.across a.now b.now i j }
+    {
+        (a[i].abs_diff(a[j]) as u64) < self.along && (b[i].abs_diff(b[j]) as u64) < self.across
     }
-    false
 }
 
-// Whether a dowel lies nearer to the low or the high limit than is asked there, or outside.
-fn too_near(z: i32, low: i32, high: i32, under: u64, over: u64) -> bool
-    ensures { result ≡ near_limit low high under over z }
-{
-    if signed::reaches(low, z, under) {
-        return !signed::reaches(z, high, over);
+impl Sides {
+    // Whether a dowel lies nearer to the low or the high side than is asked there, or outside.
+    fn too_near(self, z: i32) -> bool
+        ensures { result ≡ near_limit self.low self.high self.under self.over z }
+    {
+        !(signed::reaches(self.low, z, self.under) && signed::reaches(z, self.high, self.over))
     }
-    true
 }
 
 // The first dowel after i that is too close to i.
-pub fn partner(
+fn partner(a: &[i32; 64], b: &[i32; 64], count: usize, i: usize, least: Least) -> Option<usize>
+    requires { (i < count) × (count ≤ 64) }
+    ensures { FirstIs result (partner (close_by least.along least.across a.now b.now) count i) count }
+{
+    (i + 1..count).find(|j| least.close(a, b, i, *j))
+}
+
+// The first two dowels that are too close.
+pub fn first_close(
     a: &[i32; 64],
     b: &[i32; 64],
     count: usize,
-    i: usize,
-    along: u64,
-    across: u64,
-) -> usize
-    requires { (i < count) × (count ≤ 64) }
-    ensures { result ≡ partner (close_by along across a.now b.now) count i }
+    least: Least,
+) -> Option<(usize, usize)>
+    requires { count ≤ 64 }
+    ensures { PairIs result (close_by least.along least.across a.now b.now) count }
 {
-    let mut j = i + 1;
-    while j < count {
-        if nearer(a[i], a[j], b[i], b[j], along, across) {
-            return j;
+    for i in 0..count {
+        if let Some(j) = partner(a, b, count, i, least) {
+            return Some((i, j));
         }
-        j += 1;
     }
-    j
+    None
 }
 
-// The first dowel that has a partner too close to it.
-pub fn first_close(a: &[i32; 64], b: &[i32; 64], count: usize, along: u64, across: u64) -> usize
+// The first dowel that lies too near to the low or the high side, or outside.
+pub fn first_outside(v: &[i32; 64], count: usize, sides: Sides) -> Option<usize>
     requires { count ≤ 64 }
-    ensures { result ≡ first_pair (close_by along across a.now b.now) count }
+    ensures { FirstIs result (first_from (outside sides.low sides.high sides.under sides.over v.now) 0 count) count }
 {
-    let mut i = 0;
-    while i < count {
-        if partner(a, b, count, i, along, across) < count {
-            return i;
-        }
-        i += 1;
-    }
-    i
-}
-
-// The first dowel that lies too near to the low or the high limit, or outside.
-pub fn first_outside(
-    v: &[i32; 64],
-    count: usize,
-    low: i32,
-    high: i32,
-    under: u64,
-    over: u64,
-) -> usize
-    requires { count ≤ 64 }
-    ensures { result ≡ first_from (outside low high under over v.now) 0 count }
-{
-    let mut i = 0;
-    while i < count {
-        if too_near(v[i], low, high, under, over) {
-            return i;
-        }
-        i += 1;
-    }
-    i
+    (0..count).find(|i| sides.too_near(v[*i]))
 }

@@ -2,9 +2,9 @@
 ghost use Rattle.std.specs.Prelude.{◌≡◌, ◌≤◌};
 ghost use Rattle.spacing.specs.Spacing.{Given};
 ghost use Rattle.spacing.specs.Verdict.{
-  fault,
   number_of,
-  one_dowel,
+  fault_of,
+  told,
   pair_fault,
   end_fault,
   edge_fault,
@@ -13,164 +13,136 @@ ghost use Rattle.spacing.specs.Verdict.{
   spacing_verdict,
 };
 
-use crate::limit::APART;
-use crate::view::{Frame, Piece, Which, view_of};
-use crate::{limit, scan, signed};
+use crate::view::{Piece, Plan, View, Which};
+use crate::{limit, scan};
 
-// The numbers of the refusals.
-const DOWELS_TOO_CLOSE: u8 = 10;
-
-const END_TOO_NEAR: u8 = 11;
-
-const EDGE_TOO_NEAR: u8 = 12;
-
-// A refusal 10, 11 or 12 with its place, dowels counted from 1; all 0 where the spacing passes.
-#[derive(Clone, Copy)]
-pub struct Fault {
-    pub number: u8,
-    pub member: u8,
-    pub first: u8,
-    pub second: u8,
+// A refusal with its place, dowels counted from 1.
+#[derive(Clone, Copy, PartialEq, Eq, Debug)]
+pub enum Fault {
+    DowelsTooClose {
+        member: Which,
+        first: u8,
+        second: u8,
+    },
+    EndTooNear {
+        member: Which,
+        dowel: u8,
+    },
+    EdgeTooNear {
+        member: Which,
+        dowel: u8,
+    },
 }
 
-fn number_of(which: Which) -> u8
-    ensures { result ≡ number_of which }
-{
-    match which {
-        Which::Member1 => 1,
-        Which::Member2 => 2,
+impl Fault {
+    // The number of the refusal.
+    pub fn number(self) -> u8
+        ensures { result ≡ (fault_of self).number }
+    {
+        match self {
+            Fault::DowelsTooClose { .. } => 10,
+            Fault::EndTooNear { .. } => 11,
+            Fault::EdgeTooNear { .. } => 12,
+        }
     }
-}
 
-fn no_fault() -> Fault
-    ensures { result ≡ fault 0 0 0 0 }
-{
-    Fault {
-        number: 0,
-        member: 0,
-        first: 0,
-        second: 0,
+    pub fn member(self) -> u8
+        ensures { result ≡ (fault_of self).member }
+    {
+        match self {
+            Fault::DowelsTooClose { member, .. } => member.number(),
+            Fault::EndTooNear { member, .. } => member.number(),
+            Fault::EdgeTooNear { member, .. } => member.number(),
+        }
+    }
+
+    // The dowel that is named, or the first of two.
+    pub fn first(self) -> u8
+        ensures { result ≡ (fault_of self).first }
+    {
+        match self {
+            Fault::DowelsTooClose { first, .. } => first,
+            Fault::EndTooNear { dowel, .. } => dowel,
+            Fault::EdgeTooNear { dowel, .. } => dowel,
+        }
+    }
+
+    // The second of two dowels, else 0.
+    pub fn second(self) -> u8
+        ensures { result ≡ (fault_of self).second }
+    {
+        match self {
+            Fault::DowelsTooClose { second, .. } => second,
+            Fault::EndTooNear { .. } => 0,
+            Fault::EdgeTooNear { .. } => 0,
+        }
     }
 }
 
 // Refusal 10: two dowels too close.
-fn pair_fault(member: u8, v: Frame, d: u64, a: &[i32; 64], b: &[i32; 64], count: usize) -> Fault
-    requires { Given d v.force v.sideways count }
-    ensures { result ≡ pair_fault member v d a.now b.now count }
+fn pair_fault(member: Which, v: &View, d: u64, count: usize) -> Result<(), Fault>
+    requires { Given d v.now.frame.force v.now.frame.sideways count }
+    ensures { told result ≡ pair_fault (number_of member) v.now.frame d v.now.along v.now.across count }
 {
-    let along = limit::between_dowels(d, v.force, v.sideways);
-    let across = APART * d;
-    let i = scan::first_close(a, b, count, along, across);
-    if count <= i {
-        return no_fault();
-    }
-    let j = scan::partner(a, b, count, i, along, across);
-    Fault {
-        number: DOWELS_TOO_CLOSE,
-        member,
-        first: (i + 1) as u8,
-        second: (j + 1) as u8,
+    match scan::first_close(&v.along, &v.across, count, limit::of_pairs(v.frame, d)) {
+        None => Ok(()),
+        Some((i, j)) => Err(Fault::DowelsTooClose {
+            member,
+            first: (i + 1) as u8,
+            second: (j + 1) as u8,
+        }),
     }
 }
 
 // Refusal 11: an end too near.
-fn end_fault(member: u8, v: Frame, d: u64, a: &[i32; 64], count: usize) -> Fault
-    requires { Given d v.force v.sideways count }
-    ensures { result ≡ end_fault member v d a.now count }
+fn end_fault(member: Which, v: &View, d: u64, count: usize) -> Result<(), Fault>
+    requires { Given d v.now.frame.force v.now.frame.sideways count }
+    ensures { told result ≡ end_fault (number_of member) v.now.frame d v.now.along count }
 {
-    let low = limit::from_end(signed::negative(v.force), d, v.force, v.sideways);
-    let high = limit::from_end(signed::positive(v.force), d, v.force, v.sideways);
-    let i = scan::first_outside(a, count, v.low, v.high, low, high);
-    one_dowel(END_TOO_NEAR, member, i, count)
+    match scan::first_outside(&v.along, count, limit::of_ends(v.frame, d)) {
+        None => Ok(()),
+        Some(i) => Err(Fault::EndTooNear {
+            member,
+            dowel: (i + 1) as u8,
+        }),
+    }
 }
 
 // Refusal 12: an edge too near.
-fn edge_fault(member: u8, v: Frame, d: u64, b: &[i32; 64], count: usize) -> Fault
-    requires { Given d v.force v.sideways count }
-    ensures { result ≡ edge_fault member v d b.now count }
+fn edge_fault(member: Which, v: &View, d: u64, count: usize) -> Result<(), Fault>
+    requires { Given d v.now.frame.force v.now.frame.sideways count }
+    ensures { told result ≡ edge_fault (number_of member) v.now.frame d v.now.across count }
 {
-    let i = scan::first_outside(b, count, v.left, v.right, APART * d, APART * d);
-    one_dowel(EDGE_TOO_NEAR, member, i, count)
-}
-
-// A fault of dowel i, counted from 0, where there is one.
-fn one_dowel(number: u8, member: u8, i: usize, count: usize) -> Fault
-    requires { count ≤ 64 }
-    ensures { result ≡ one_dowel number member i count }
-{
-    if count <= i {
-        return no_fault();
-    }
-    Fault {
-        number,
-        member,
-        first: (i + 1) as u8,
-        second: 0,
+    match scan::first_outside(&v.across, count, limit::of_edges(v.frame, d)) {
+        None => Ok(()),
+        Some(i) => Err(Fault::EdgeTooNear {
+            member,
+            dowel: (i + 1) as u8,
+        }),
     }
 }
 
-// The verdict of a member, with the dowels' coordinates along and across its grain: the first fault in the order 10, 11, 12.
-pub fn member_verdict(
-    which: Which,
-    v: Frame,
-    d: u64,
-    a: [i32; 64],
-    b: [i32; 64],
-    count: usize,
-) -> Fault
-    requires { Given d v.force v.sideways count }
-    ensures { result ≡ verdict_in (number_of which) v d a b count }
+// The verdict of a member by what it measures: the first fault in the order 10, 11, 12.
+pub fn member_verdict(member: Which, v: View, d: u64, count: usize) -> Result<(), Fault>
+    requires { Given d v.frame.force v.frame.sideways count }
+    ensures { told result ≡ verdict_in (number_of member) v.frame d v.along v.across count }
 {
-    let member = number_of(which);
-    let close = pair_fault(member, v, d, &a, &b, count);
-    if close.number != 0 {
-        return close;
-    }
-    let end = end_fault(member, v, d, &a, count);
-    if end.number != 0 {
-        return end;
-    }
-    edge_fault(member, v, d, &b, count)
+    pair_fault(member, &v, d, count)?;
+    end_fault(member, &v, d, count)?;
+    edge_fault(member, &v, d, count)
 }
 
 // The verdict of a member by its view.
-fn viewed(
-    which: Which,
-    m: Piece,
-    d: u64,
-    fx: i32,
-    fy: i32,
-    x: [i32; 64],
-    y: [i32; 64],
-    count: usize,
-) -> Fault
-    requires { Given d fx fy count }
-    ensures { result ≡ member_verdict which m d fx fy x y count }
+fn viewed(which: Which, m: Piece, plan: Plan) -> Result<(), Fault>
+    ensures { told result ≡ member_verdict which m plan.diameter plan.fx plan.fy plan.x plan.y plan.count }
 {
-    let view = view_of(which, m, fx, fy, x, y);
-    let frame = view.frame;
-    let along = view.along;
-    let across = view.across;
-    member_verdict(which, frame, d, along, across, count)
+    member_verdict(which, plan.view(which, m), plan.diameter, plan.count)
 }
 
 // The verdict of both members, member 1 first.
-pub fn spacing_verdict(
-    member1: Piece,
-    member2: Piece,
-    d: u64,
-    fx: i32,
-    fy: i32,
-    x: [i32; 64],
-    y: [i32; 64],
-    count: usize,
-) -> Fault
-    requires { Given d fx fy count }
-    ensures { result ≡ spacing_verdict member1 member2 d fx fy x y count }
+pub fn spacing_verdict(member1: Piece, member2: Piece, plan: Plan) -> Result<(), Fault>
+    ensures { told result ≡ spacing_verdict member1 member2 plan.diameter plan.fx plan.fy plan.x plan.y plan.count }
 {
-    let first = viewed(Which::Member1, member1, d, fx, fy, x, y, count);
-    if first.number != 0 {
-        return first;
-    }
-    viewed(Which::Member2, member2, d, fx, fy, x, y, count)
+    viewed(Which::Member1, member1, plan)?;
+    viewed(Which::Member2, member2, plan)
 }

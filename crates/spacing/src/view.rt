@@ -1,9 +1,10 @@
 // What a member measures along and across its grain: 'along' is decided here and nowhere else.
 ghost use Rattle.std.specs.Prelude.{◌≡◌, ◌≤◌, nat_abs};
-ghost use Rattle.spacing.specs.Spacing.{force_in, view_of};
+ghost use Rattle.spacing.specs.Spacing.{force_in, view_of, Given};
+ghost use Rattle.spacing.specs.Verdict.{number_of};
 
 // The dowels put the force into member 2, and its opposite into member 1.
-#[derive(Clone, Copy)]
+#[derive(Clone, Copy, PartialEq, Eq, Debug)]
 pub enum Which {
     Member1,
     Member2,
@@ -17,6 +18,18 @@ pub struct Piece {
     pub y0: i32,
     pub x1: i32,
     pub y1: i32,
+}
+
+// The diameter in mm, the force into member 2 in N, and the first `count` places of dowels, in tenths.
+#[derive(Clone, Copy)]
+pub struct Plan {
+    pub diameter: u64,
+    pub fx: i32,
+    pub fy: i32,
+    pub x: [i32; 64],
+    pub y: [i32; 64],
+    pub count: usize,
+    pub ghost given: { Given diameter fx fy count },
 }
 
 // The two ends and the two edges of a member, in tenths, and the components of the force in it, in N.
@@ -38,23 +51,45 @@ pub struct View {
     pub across: [i32; 64],
 }
 
-// A component of the force in a member.
-fn force_in(which: Which, f: i32) -> i32
-    requires { nat_abs f ≤ 1000000 }
-    ensures { result ≡ force_in which f }
-{
-    match which {
-        Which::Member1 => 0 - f,
-        Which::Member2 => f,
+impl Which {
+    // How a place names a member.
+    pub fn number(self) -> u8
+        ensures { result ≡ number_of self }
+    {
+        match self {
+            Which::Member1 => 1,
+            Which::Member2 => 2,
+        }
+    }
+
+    // A component of the force in a member.
+    fn force_in(self, f: i32) -> i32
+        requires { nat_abs f ≤ 1000000 }
+        ensures { result ≡ force_in self f }
+    {
+        match self {
+            Which::Member1 => 0 - f,
+            Which::Member2 => f,
+        }
     }
 }
 
+impl Plan {
+    // What a member measures of it.
+    pub fn view(self, which: Which, m: Piece) -> View
+        ensures { result ≡ view_of which m self.fx self.fy self.x self.y }
+    {
+        view_of(which, m, self.fx, self.fy, self.x, self.y)
+    }
+}
+
+// Six parameters stay: a `Plan` would ask more of callers, its diameter, its count and some force.
 pub fn view_of(which: Which, m: Piece, fx: i32, fy: i32, x: [i32; 64], y: [i32; 64]) -> View
     requires { (nat_abs fx ≤ 1000000) × (nat_abs fy ≤ 1000000) }
     ensures { result ≡ view_of which m fx fy x y }
 {
-    let by_x = force_in(which, fx);
-    let by_y = force_in(which, fy);
+    let by_x = which.force_in(fx);
+    let by_y = which.force_in(fy);
     if m.grain == 0 {
         return View {
             frame: Frame {

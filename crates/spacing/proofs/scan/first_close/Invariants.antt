@@ -1,12 +1,10 @@
 use mathlib.Core.Path.{◌≡◌}
-use Prim.Native.Nat.{◌≤◌, ◌-◌}
-use Rattle.spacing.specs.Search.{first_from, first_pair, has_partner}
+use mathlib.Core.Bool.{false}
+use Prim.Native.Nat.{ℕ, ◌<◌}
+use Rattle.spacing.specs.Search.{has_partner}
 use Rattle.spacing.specs.Limits.{close_by}
 use Rattle.spacing.proofs.scan.first_close.Given as goal
 
+-- no dowel so far has a partner
 abbrev pub invariant-loop-i : goal.invariant-loop-i
-invariant-loop-i l = (l.i ≤ l.count)
-    × (first_pair (close_by l.along l.across l.a l.b) l.count ≡ first_from (has_partner (close_by l.along l.across l.a l.b) l.count) l.i (l.count - l.i))
-
-abbrev pub decreases-loop-i : goal.decreases-loop-i
-decreases-loop-i l = l.count - l.i
+invariant-loop-i l = (k : ℕ) → k < l.i → has_partner (close_by l.least.along l.least.across l.a l.b) l.count k ≡ false
