@@ -6,18 +6,21 @@ use mathlib.Core.List.{List}
 use borrow.Author.Tests.{eq-eqb, ne_eqb, eqb-true, eqb-false, le-leb, lt-leb}
 use native.Mathlib.Decide.{ℕ_discrete}
 use lib.Dec.{eqb}
-use Rattle.spacing.specs.declared.verdict.Fault.{Fault}
+use Rattle.spacing.specs.Verdict.{Fault}
 use Rattle.spacing.specs.Verdict.{fault}
-use Rattle.joint.specs.declared.report.Report.{Report}
-use Rattle.joint.specs.declared.report.Verdict.TheVariants.{Fits, Overloaded}
-use Rattle.joint.specs.declared.Outcome.{Outcome}
+use Rattle.std.specs.Prelude.{Ok, Err}
+use Rattle.joint.specs.declared.Values.{Values}
+use Rattle.joint.specs.declared.refusals.Rejection.{Rejection}
+use Rattle.joint.specs.Answer.{Report, Outcome}
+use Rattle.joint.specs.Answer.Verdict.{Fits, Overloaded}
+use Rattle.joint.specs.Told.{fault_in, outcome_in}
 use Rattle.joint.specs.Layout.{values_of}
 use Rattle.joint.specs.Refusal.{refusal_of, refusal_number, drill_fault, fields_within, no_force, outcome_of, outcome, zero_values}
 use Rattle.joint.specs.Claim.{Accepted, Judged, Reported}
 use Rattle.joint.specs.Use.{verdict_of}
 use Rattle.joint.specs.Returned.{answered, unanswered, report_of, Passed}
 use Rattle.joint.proofs.Order.{unnumbered}
-use Rattle.joint.proofs.Faults.{given, outcome_accepted}
+use Rattle.joint.proofs.Faults.{given, outcome_accepted, rejected}
 use Rattle.joint.proofs.Accepted.{fields_hold}
 use Rattle.joint.proofs.Answers.{answers}
 
@@ -93,6 +96,13 @@ claim s = go (ℕ_discrete (refusal_of s).number 0)
 
 pub judged : {s : List ℕ} {r : Report} → r ≡ report_of s → Reported s r
 judged {s} {r} e = record { claim = subst⁻¹ (Judged s) e (claim s); is = e }
+
+-- ---- the verdict
+pub fits : (U : ℕ) → U ≤ 10000 → Fits ≡ verdict_of U
+fits U h = simp (le-leb U 10000 h)
+
+pub overloaded : (U : ℕ) → 10000 < U → Overloaded ≡ verdict_of U
+overloaded U h = simp (lt-leb U 10000 h)
 
 -- ---- by the outcome of the refusals
 module _ {s : List ℕ} where

@@ -3,32 +3,33 @@ use Prim.Native.Nat.{ℕ, zero, suc, ◌+◌, ◌≤◌, ◌<◌, suc-le-suc}
 use native.Mathlib.Omega.{arith}
 use mathlib.Core.Path.{◌≡◌, refl, sym, ap, ◌∙◌}
 use mathlib.Core.List.{List, [], ◌∷◌, ◌++◌, map}
+use Rattle.std.specs.Prelude.{Result, Ok, Err}
 use mathlib.Core.Bool.{Bool, true, false, cond, not, ◌&&◌, and-eq-true_iff}
 use borrow.Author.Tests.{leb-true, eqb-true, eqb-false, not-false, ne_eqb}
 use lib.Dec.{leb, ltb, eqb}
 use lib.IntN.{ℤ, pos, negsuc, nat_abs}
-use Rattle.spacing.specs.declared.verdict.Fault.{Fault}
+use Rattle.spacing.specs.Verdict.{Fault}
 use Rattle.spacing.specs.Spacing.{Given, too_close, end_too_near, edge_too_near}
 use Rattle.spacing.specs.Search.{first_from as searched, partner, first_pair}
-use Rattle.spacing.specs.Verdict.{fault, or_else, pair_fault, end_fault, edge_fault, verdict_in, member_verdict, spacing_verdict}
+use Rattle.spacing.specs.declared.verdict.Fault.{Fault as PlanFault}
+use Rattle.spacing.specs.declared.verdict.Fault.TheVariants.{DowelsTooClose, EndTooNear, EdgeTooNear}
+use Rattle.spacing.specs.Verdict.{fault, fault_of, told as plan_told, or_else, pair_fault, end_fault, edge_fault, verdict_in, member_verdict, spacing_verdict}
 use Rattle.joint.specs.Layout.{values_of}
 use Rattle.joint.specs.Order.{holding, tests, position}
 use Rattle.numbers.specs.Numbers.{force}
 use Rattle.joint.specs.Refusal.{loads_within, fields_within, no_force, Test, test, script_tests, designer_tests, drill_tests, first_holding}
 use Rattle.joint.specs.Refusal.{fault10, fault11, fault12, is_fault, frame, alongs, acrosses, drill_fault}
 use Rattle.joint.specs.Refusal.{refusal_number, refusal_of, zero_values, reading_of, outcome, outcome_of}
-use Rattle.joint.specs.declared.Reading.{Reading}
 use Rattle.joint.specs.declared.Values.{Values}
-use Rattle.joint.specs.Stage.{parts_of, layout, layout_number, stage, stage_number}
 use Rattle.joint.specs.Refusal.{value_tests}
-use Rattle.joint.specs.declared.Stage.{Stage}
-use Rattle.joint.specs.declared.Stage.TheVariants.{Passed, Refused}
-use Rattle.joint.specs.declared.layout.Parts.{Parts}
-use Rattle.joint.specs.declared.layout.Layout.{Layout}
-use Rattle.joint.specs.declared.layout.Layout.TheVariants.{Laid, Refused as LayoutRefused}
+use Rattle.joint.specs.Answer.{Reading}
+use Rattle.joint.specs.declared.refusals.Refusal.{Refusal}
+use Rattle.joint.specs.declared.refusals.Refusal.TheVariants.{TooFewBytes, OtherVersion, OtherPairCount, PairsAgainstRule, KindsNotOnce, WrongLength, FieldOutside, EmptyOutline, NoForce}
+use Rattle.joint.specs.declared.refusals.Rejection.{Rejection}
+use Rattle.joint.specs.declared.refusals.Rejection.TheVariants.{Record, Plan}
+use Rattle.joint.specs.Told.{number_of, reading, fault_in, outcome_in}
 use Rattle.joint.proofs.Accepted.{fields_hold}
 use Rattle.joint.proofs.Holding.{first_place, place_zero, place_kept, numbered, no_number, first_zero, first_kept, counts_from, by_place}
-use Rattle.joint.proofs.Stages.{layout_number_lem, laid_number, layout_refused, stage_number_lem, stage_passed, stage_refused}
 
 -- ---- what 7 and 9 leave
 small_force : (z : ℤ) → force z ≡ true → nat_abs z ≤ 1000000
@@ -267,6 +268,24 @@ pub outcome_accepted : (s : List ℕ) (f : Fault) → f ≡ drill_fault (values_
 unfolding outcome_of outcome refusal_of
 outcome_accepted s f e h g = simp (h, drill_none (values_of s) (ap (λ (z : Fault). z.number) (sym e) ∙ g))
 
+-- ---- no refusal has the number 0
+pub numbered_from_1 : (r : Refusal) → number_of r ≡ 0 → ⊥
+numbered_from_1 TooFewBytes h = omega arith
+numbered_from_1 OtherVersion h = omega arith
+numbered_from_1 OtherPairCount h = omega arith
+numbered_from_1 PairsAgainstRule h = omega arith
+numbered_from_1 KindsNotOnce h = omega arith
+numbered_from_1 WrongLength h = omega arith
+numbered_from_1 FieldOutside h = omega arith
+numbered_from_1 EmptyOutline h = omega arith
+numbered_from_1 NoForce h = omega arith
+
+pub rejected : (r : Rejection) → (fault_in r).number ≡ 0 → ⊥
+rejected (Record r) h = numbered_from_1 r h
+rejected (Plan (DowelsTooClose m i j)) h = omega arith
+rejected (Plan (EndTooNear m i)) h = omega arith
+rejected (Plan (EdgeTooNear m i)) h = omega arith
+
 -- ---- what reading answers, by what its stages answered
 module _ (s : List ℕ) where
   -- a refusal's number
@@ -316,7 +335,7 @@ module _ (s : List ℕ) where
 
     pub refused_plan : (f : PlanFault) → plan_told (Err f) ≡ drill_fault v → outcome_in (Err (Plan f)) ≡ outcome_of s
     unfolding outcome_of outcome refusal_of
-    refused_plan f d = simp (none_numbered, ← values_are, ← d)
+    refused_plan f d = simp (none_numbered, ← values_are, ← d, ne_eqb (fault_of f).number 0 (rejected (Plan f)))
 
     pub accepted : plan_told (Ok tt) ≡ drill_fault v → outcome_in (Ok v) ≡ outcome_of s
     unfolding outcome_of outcome refusal_of

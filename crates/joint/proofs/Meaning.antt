@@ -6,9 +6,9 @@ use mathlib.Core.List.{List}
 use native.Mathlib.Omega.{arith}
 use lib.Dec.{leb}
 use borrow.Author.Tests.{leb-true, leb-false}
-use Rattle.joint.specs.declared.report.Report.{Report}
-use Rattle.joint.specs.declared.report.Verdict.{Verdict}
-use Rattle.joint.specs.declared.report.Verdict.TheVariants.{Fits, Overloaded, Refused}
+use Rattle.joint.specs.Answer.{Report}
+use Rattle.joint.specs.Answer.{Verdict}
+use Rattle.joint.specs.Answer.Verdict.{Fits, Overloaded, Refused}
 use Rattle.joint.specs.Layout.{values_of}
 use Rattle.joint.specs.DesignOf.{design_of}
 use Rattle.joint.specs.Use.{verdict_of, Means}

@@ -14,7 +14,7 @@ use Rattle.strength.specs.Fraction.{Fraction, ◌over◌, whole, ◌↑◌, ◌�
 use Rattle.strength.specs.Shear.{AtMostR, bearing}
 use Rattle.codes.specs.Tables.{printed_classes, class_of, steel_of, kmod_of}
 use Rattle.strength.proofs.Falling.{falls}
-use Rattle.spacing.specs.declared.verdict.Fault.{Fault}
+use Rattle.spacing.specs.Verdict.{Fault}
 use Rattle.spacing.specs.Spacing.{place, along_enough, end_passes}
 use Rattle.spacing.specs.Search.{first_from, partner, first_pair}
 use Rattle.spacing.specs.Verdict.{fault, pair_fault, end_fault, edge_fault, verdict_in, member_verdict, spacing_verdict}
@@ -25,7 +25,7 @@ use Rattle.group.proofs.Effective.{not_above_falls}
 use Rattle.group.proofs.RowLaws.{some_row, from_lowest}
 use Rattle.joint.specs.declared.Positions.{Positions}
 use Rattle.joint.specs.declared.Values.{Values}
-use Rattle.joint.specs.declared.report.Report.{Report}
+use Rattle.joint.specs.Answer.{Report}
 use Rattle.chain.specs.Chain.{number_at, bound, all_follow, chained}
 use Rattle.joint.specs.Layout.{part_of_pair, pair_of_kind, member_at, members_in, dowel_in, column, positions_in, loads_in, values_of}
 use Rattle.joint.specs.Refusal.{refusal1, refusal2, refusal3, refusal4, one_if, once, refusal5, positions_length, refusal6}

@@ -1,7 +1,7 @@
 -- 'Order': what it means that a test of a list is the first that holds. Tests are counted from 0.
 use Rattle.std.specs.Prelude.{ℕ, ◌+◌, ◌<◌, ◌≡◌, List, ◌++◌, map, Bool, true, false, cond, get_or, eqb}
 use Rattle.joint.specs.Refusal.{Test, script_tests, designer_tests, drill_tests}
-use Rattle.spacing.specs.declared.verdict.Fault.{Fault}
+use Rattle.spacing.specs.Verdict.{Fault}
 
 pub record FirstAt (tests : List Bool) (j : ℕ) : Type 0 where
   pub holds : get_or tests j false ≡ true

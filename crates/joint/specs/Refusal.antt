@@ -21,7 +21,7 @@ use Rattle.spacing.specs.declared.view.Which.{Which}
 use Rattle.spacing.specs.declared.view.Which.TheVariants.{Member1, Member2}
 use Rattle.spacing.specs.declared.view.Piece.{Piece}
 use Rattle.spacing.specs.declared.view.Frame.{Frame}
-use Rattle.spacing.specs.declared.verdict.Fault.{Fault}
+use Rattle.spacing.specs.Verdict.{Fault}
 use Rattle.spacing.specs.Spacing.{along, across, frame_of}
 use Rattle.spacing.specs.Verdict.{fault, pair_fault, end_fault, edge_fault, spacing_verdict}
 

@@ -3,7 +3,7 @@ use Rattle.std.specs.Prelude.{ℕ, ◌+◌, ◌*◌, ◌-◌, ◌/◌, ◌%◌, 
 use Rattle.codes.specs.Tables.{is_class}
 use Rattle.strength.specs.Working.{square_root_of, capacity_of}
 use Rattle.strength.specs.Shear.{PlaneWithin}
-use Rattle.spacing.specs.declared.verdict.Fault.{Fault}
+use Rattle.spacing.specs.Verdict.{Fault}
 use Rattle.spacing.specs.Spacing.{along, across, squared_force, Components, Given}
 use Rattle.group.specs.declared.member.Taken.{Taken}
 use Rattle.group.specs.declared.member.Both.{Both}

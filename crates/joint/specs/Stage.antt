@@ -4,6 +4,8 @@ use Rattle.std.specs.Prelude.{ℕ, suc, ◌+◌, ◌*◌, ◌≤◌, ◌<◌, �
 use Rattle.numbers.specs.Numbers.{u8_at, i32_at}
 use Rattle.joint.specs.Layout.{pair_offset, pair_length, pair_sum, kind_of_pair, pair_of_kind, part_of_kind}
 use Rattle.joint.specs.Refusal.{positions_length}
+use Rattle.spacing.specs.declared.view.Plan.{Plan}
+use Rattle.joint.specs.declared.Values.{Values}
 use Rattle.joint.specs.declared.layout.Part.{Part}
 use Rattle.joint.specs.declared.layout.Parts.{Parts}
 
@@ -67,6 +69,15 @@ pub record LaidOut (s : List ℕ) (p : Parts) : Type 0 where
   pub dowel_length : length (part_of_kind s 2) ≡ 3
   pub positions_length_lem : length (part_of_kind s 3) ≡ 2 + 8 * u8_at (part_of_kind s 3) 1
   pub loads_length : length (part_of_kind s 4) ≡ 11
+
+-- the drill plan that values make
+pub record IsPlanOf (v : Values) (p : Plan) : Type 0 where
+  pub diameter : p.diameter ≡ v.dowel.diameter
+  pub fx : p.fx ≡ v.loads.fx
+  pub fy : p.fy ≡ v.loads.fy
+  pub x : p.x ≡ v.positions.x
+  pub y : p.y ≡ v.positions.y
+  pub count : p.count ≡ v.positions.n
 
 -- every eighth byte of a part, from `at` on, starts a number
 abbrev pub eighths : List ℕ → ℕ → ℕ → ℤ

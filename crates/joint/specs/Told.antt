@@ -1,7 +1,6 @@
 -- 01, 'When an answer is an enum, the promises use a definition that gives this paper's number and values for each case.'
 use Rattle.std.specs.Prelude.{ℕ, Result, Ok, Err}
-use Rattle.spacing.specs.Verdict.{fault}
-use Rattle.spacing.specs.declared.verdict.Fault.{Fault}
+use Rattle.spacing.specs.Verdict.{Fault, fault, fault_of}
 use Rattle.joint.specs.declared.places.Kind.{Kind}
 use Rattle.joint.specs.declared.places.Kind.TheVariants.{Members, Dowel, Positions, Loads}
 use Rattle.joint.specs.declared.Values.{Values}
@@ -48,11 +47,7 @@ reading (Err r) = record { number = number_of r; values = zero_values }
 -- 'For 1 to 9 the place is 0, 0, 0.'
 abbrev pub fault_in : Rejection → Fault
 fault_in (Record r) = fault (number_of r) 0 0 0
-fault_in (Plan f) = f
-
-abbrev pub plan_told : Result (Unit {0}) Fault → Fault
-plan_told (Ok _) = fault 0 0 0 0
-plan_told (Err f) = f
+fault_in (Plan f) = fault_of f
 
 abbrev pub outcome_in : Result Values Rejection → Outcome
 outcome_in (Ok v) = outcome (fault 0 0 0 0) v

@@ -1,13 +1,14 @@
 // The drill plan: refusals 10 to 12, by crate `spacing`.
 ghost use Rattle.std.specs.Prelude.{◌≡◌};
 ghost use Rattle.spacing.specs.Spacing.{Given};
-ghost use Rattle.joint.specs.Told.{plan_told};
+ghost use Rattle.spacing.specs.Verdict.{told};
 ghost use Rattle.joint.specs.Refusal.{spaced, drill_fault};
+ghost use Rattle.joint.specs.Stage.{IsPlanOf};
 
 use crate::{Member, Values};
 use spacing::verdict;
 use spacing::verdict::Fault;
-use spacing::view::Piece;
+use spacing::view::{Piece, Plan};
 
 // A member as the spacing rules take it.
 impl From<Member> for Piece {
@@ -24,24 +25,29 @@ impl From<Member> for Piece {
     }
 }
 
+// The drill plan of values that passed refusals 1 to 9.
+pub(crate) fn plan_of(v: &Values) -> Plan
+    requires { Given v.now.dowel.diameter v.now.loads.fx v.now.loads.fy v.now.positions.n }
+    ensures { IsPlanOf v.now result }
+{
+    Plan {
+        diameter: v.dowel.diameter as u64,
+        fx: v.loads.fx,
+        fy: v.loads.fy,
+        x: v.positions.x,
+        y: v.positions.y,
+        count: v.positions.n,
+    }
+}
+
 // The first fault of values that passed refusals 1 to 9.
 pub(crate) fn check(v: &Values) -> Result<(), Fault>
     requires { Given v.now.dowel.diameter v.now.loads.fx v.now.loads.fy v.now.positions.n }
-    ensures { plan_told result ≡ drill_fault v.now }
+    ensures { told result ≡ drill_fault v.now }
 {
-    let fault = verdict::spacing_verdict(
+    verdict::spacing_verdict(
         v.members.member1.into(),
         v.members.member2.into(),
-        v.dowel.diameter as u64,
-        v.loads.fx,
-        v.loads.fy,
-        v.positions.x,
-        v.positions.y,
-        v.positions.n,
-    );
-    if fault.number == 0 {
-        Ok(())
-    } else {
-        Err(fault)
-    }
+        plan_of(v),
+    )
 }

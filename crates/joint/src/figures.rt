@@ -18,7 +18,7 @@ ghost use Rattle.joint.specs.Returned.{
 
 use crate::demand::Demand;
 use crate::report::{Figures, Judgement};
-use crate::{Member, Values};
+use crate::{Member, Values, drill};
 use group::member;
 use group::member::Both;
 use spacing::force;
@@ -36,12 +36,7 @@ fn taken_of(v: &Values) -> Both
     member::both_taken(
         v.members.member1.into(),
         v.members.member2.into(),
-        v.dowel.diameter as u64,
-        v.loads.fx,
-        v.loads.fy,
-        v.positions.x,
-        v.positions.y,
-        v.positions.n,
+        drill::plan_of(v),
     )
 }
 
