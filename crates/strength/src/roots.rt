@@ -12,16 +12,11 @@ const ABOVE_SQUARE_ROOTS: u64 = 4294967296;
 pub fn whole_square_root(n: u64) -> u64
     ensures { SquareRoot n result }
 {
-    greatest_between(
-        0,
-        ABOVE_SQUARE_ROOTS,
-        &|root: u64|
-            requires { root < 4294967296 }
-            ensures { result ≡ nat_le (root * root) n }
-        {
-            root * root <= n
-        },
-    )
+    let passes = |root: u64|
+        requires { root < 4294967296 }
+        ensures { result ≡ nat_le (root * root) n }
+    { root * root <= n };
+    greatest_between(0, ABOVE_SQUARE_ROOTS, &passes)
 }
 
 // The greatest number at which a test passes, known to be at least low and below high: the last one from low on at which it
