@@ -1,7 +1,7 @@
 // Whole roots by recursive bracketing: the root lies between lo and hi, and the width hi - lo falls at each call.
-ghost use Rattle.std.specs.Prelude.{◌≡◌, ◌+◌, ◌*◌, ◌^◌, ◌<◌, nat_le};
+ghost use Rattle.std.specs.Prelude.{◌≡◌, ℕ, ◌+◌, ◌*◌, ◌^◌, ◌<◌, ◌≤◌, true, false, nat_le};
 ghost use Rattle.wide.specs.Natural.{value};
-ghost use Rattle.strength.specs.Roots.{SquareRoot, SquareBracket, FifthRoot, FifthBracket, FactorWithin, Inside};
+ghost use Rattle.strength.specs.Roots.{SquareRoot, FifthRoot, FifthBracket, FactorWithin, Inside};
 
 use std::num::{wrapping_add_u64, wrapping_sub_u64};
 
@@ -12,23 +12,33 @@ const ABOVE_SQUARE_ROOTS: u64 = 4294967296;
 pub fn whole_square_root(n: u64) -> u64
     ensures { SquareRoot n result }
 {
-    square_root_between(n, 0, ABOVE_SQUARE_ROOTS)
+    let passes = |root: u64|
+        requires { root < 4294967296 }
+        ensures { result ≡ nat_le (root * root) n }
+    { root * root <= n };
+    greatest_between(0, ABOVE_SQUARE_ROOTS, &passes)
 }
 
-// The whole square root of n, known to be at least low and below high.
-fn square_root_between(n: u64, low: u64, high: u64) -> u64
-    requires { SquareBracket n low high }
-    ensures { SquareRoot n result }
+// The greatest number at which a test passes, known to be at least low and below high: the last one from low on at which it
+// passes. It is tried only below high.
+pub fn greatest_between<F: Fn(u64) -> bool>(low: u64, high: u64, passes: &F) -> u64
+    requires apart { low < high }
+    requires tried { (number : ℕ) → number < high → F.pre passes.now number }
+    requires lowest { F.post passes.now low true }
+    requires highest { F.post passes.now high false }
+    ensures within { (low ≤ result) × (result < high) }
+    ensures passed { F.post passes.now result true }
+    ensures failed { F.post passes.now (result + 1) false }
 {
     let width = high - low;
     if width <= 1 {
         return low;
     }
-    let mid = low + width / 2;
-    if mid * mid <= n {
-        square_root_between(n, mid, high)
+    let middle = low + width / 2;
+    if passes(middle) {
+        greatest_between(middle, high, passes)
     } else {
-        square_root_between(n, low, mid)
+        greatest_between(low, middle, passes)
     }
 }
 
