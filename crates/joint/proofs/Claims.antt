@@ -105,15 +105,15 @@ pub overloaded : (U : ℕ) → 10000 < U → Overloaded ≡ verdict_of U
 overloaded U h = simp (lt-leb U 10000 h)
 
 -- ---- by the outcome of the refusals
-module _ {s : List ℕ} where
-  pub accepted_outcome : {v : Values} → outcome_in (Ok v) ≡ outcome_of s → Accepted s × (v ≡ values_of s)
+module _ (s : List ℕ) where
+  pub accepted_outcome : (v : Values) → outcome_in (Ok v) ≡ outcome_of s → Accepted s × (v ≡ values_of s)
   unfolding outcome_of outcome
-  accepted_outcome {v} e =
+  accepted_outcome v e =
       let a : Accepted s = sym (ap (λ (o : Outcome). o.number) e) in
       (a, ap (λ (o : Outcome). o.values) e ∙ ap (λ (b : Bool). cond b (values_of s) zero_values) (eq-eqb (refusal_of s).number 0 a))
 
-  pub refused_outcome : {r : Rejection} → outcome_in (Err r) ≡ outcome_of s → unanswered (fault_in r) ≡ report_of s
+  pub refused_outcome : (r : Rejection) → outcome_in (Err r) ≡ outcome_of s → unanswered (fault_in r) ≡ report_of s
   unfolding outcome_of outcome
-  refused_outcome {r} e =
+  refused_outcome r e =
       ap (λ (o : Outcome). unanswered (fault o.number o.member o.first o.second)) e
       ∙ report_refused s (λ h. rejected r (ap (λ (o : Outcome). o.number) e ∙ h))

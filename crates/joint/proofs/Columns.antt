@@ -5,35 +5,26 @@ use native.Mathlib.Decide.{le_ind}
 use native.Mathlib.Omega.{arith}
 use mathlib.Core.Path.{◌≡◌, refl, sym, ap, ◌∙◌}
 use mathlib.Core.List.{List}
-use mathlib.Core.Bool.{Bool, true, false, and-false}
+use mathlib.Core.Bool.{Bool, true, false, ◌&&◌}
+use Rattle.std.specs.List.{list_all}
+use Rattle.std.proofs.lemmas.List.Folds.{list_all_more}
 use borrow.Author.Tests.{leb-true, leb-false}
 use lib.Dec.{leb}
 use lib.IntN.{ℤ, pos}
-use lib.ListN.{length, get_or, set, replicate, length-set}
+use lib.ListN.{length, get_or, set, take, replicate, length-set}
 use lib.Seq.{set_out}
 use Rattle.numbers.specs.Numbers.{i32_at, coordinate}
 use Rattle.joint.specs.Layout.{position_field, column}
 use Rattle.joint.specs.Stage.{eighths}
 use Rattle.joint.specs.Refusal.{coordinates}
 
-pub coordinates_none : (l : List ℤ) → coordinates l 0 ≡ true
+-- the first n numbers of a list, as they are scanned
+pub coordinates_are : (l : List ℤ) (n : ℕ) → n ≤ length l → list_all coordinate (take n l) ≡ coordinates l n
 unfolding coordinates
-coordinates_none l = refl
-
-pub coordinates_more : (l : List ℤ) (i : ℕ) → coordinates l i ≡ true → coordinate (get_or l i (pos 0)) ≡ true
-    → coordinates l (i + 1) ≡ true
-unfolding coordinates
-coordinates_more l i p q = rw add-one (simp p q)
-
--- a number that is none decides for every longer scan
-pub coordinates_stop : (l : List ℤ) (i : ℕ) → coordinate (get_or l i (pos 0)) ≡ false → (n : ℕ) → i < n → coordinates l n ≡ false
-unfolding coordinates
-coordinates_stop l i e n h =
-    le_ind (λ (m : ℕ). coordinates l m ≡ false)
-    (simp e (and-false (coordinates l i)))
-    (λ m _ p. simp p)
-    n
-    h
+coordinates_are l zero h = refl
+coordinates_are l (suc n) h =
+    let more = rw add-one at (list_all_more coordinate l n (pos 0) (omega arith)) in
+    more ∙ ap (λ (b : Bool). b && coordinate (get_or l n (pos 0))) (coordinates_are l n (omega arith))
 
 module _ (f : ℕ → ℤ) where
   pub column_length : (n : ℕ) → length (column f n) ≡ 64

@@ -62,13 +62,13 @@ module _ {s bounds : List ℕ} {b : Bool} (e : Read Two s 4 20 4 (replicate 5 0)
   unfolding refusal4
   four = rw e.whole
 
-  pub bounded : not b ≡ false → Bounded s bounds
+  pub bounded : b ≡ true → Bounded s bounds
   bounded h =
       let at = filled_at (bound Two s 4 20) (replicate 5 0) in
       record {
-        parted = parted s (sym four ∙ h);
+        parted = parted s (sym four ∙ ap not h);
         start = λ k l.
-            rw e.bounds (at k 5 (omega arith) (omega arith) ∙ sym (follow Two s 4 20 4 (sym e.whole ∙ not-false b h) k l).start ∙ offset_is s k);
+            rw e.bounds (at k 5 (omega arith) (omega arith) ∙ sym (follow Two s 4 20 4 (sym e.whole ∙ h) k l).start ∙ offset_is s k);
         end = λ k l. rw e.bounds (at (suc k) 5 (omega arith) (omega arith) ∙ sum_is s k);
       }
 
@@ -257,13 +257,18 @@ module _ {s : List ℕ} (h : Parted s) where
         let i = stretch_of.inside in
         length-take-le _ (drop (pair_offset s (pair_of_kind s kind)) s) (rw length-drop (omega arith))
 
-  pub positions_inside : (parts_of s).positions.start + (parts_of s).positions.bytes ≤ length s
+  positions_inside : (parts_of s).positions.start + (parts_of s).positions.bytes ≤ length s
   unfolding parts_of
   positions_inside = (stretch_of 3).inside
 
-  pub six : refusal6 s ≡ not (sized s (parts_of s))
+  six : refusal6 s ≡ not (sized s (parts_of s))
   unfolding refusal6 sized parts_of part_at part_of_pair
   six = simp (part_length 1, part_length 2, part_length 4)
+
+-- what was found lies within the record
+pub part_inside : {s bounds : List ℕ} {b : Bool} {p : Parts} → Read Two s 4 20 4 (replicate 5 0) bounds b → b ≡ true → Some p ≡ all_found s
+    → p.positions.start + p.positions.bytes ≤ length s
+part_inside {s} e h g = rw (kinds_there s g).1 (positions_inside (bounded e h).parted)
 
 -- ---- refusals 1 to 6, one after the other
 module _ (s : List ℕ) where

@@ -4,7 +4,7 @@ use mathlib.Core.Path.{◌≡◌, ap}
 use mathlib.Core.Logic.{⊎_elim, ◌⊎◌, inl, inr}
 use native.Mathlib.Omega.{arith}
 use native.Mathlib.Decide.{dec_le}
-use native.Mathlib.Nat.{div-add-mod', mod-lt, mul-le-mul_right, lt_of_not-le}
+use native.Mathlib.Nat.{div-add-mod', mod-lt, mul-le-mul_right, lt_of_not-le, lt_of_mul-lt-mul_right, le_antisymm}
 use Rattle.strength.specs.Fraction.{Fraction, ◌over◌, whole, ◌↑◌, ◌≼◌, Proper}
 use Rattle.strength.specs.Working.{square_root_of}
 use Rattle.strength.specs.Roots.{SquareRoot}
@@ -13,6 +13,8 @@ use Rattle.wide.proofs.Powers.{square_lt, square_is}
 use Rattle.group.specs.declared.member.Taken.{Taken}
 use Rattle.joint.specs.declared.demand.Demand.{Demand}
 use Rattle.joint.specs.Use.{plane_force, row_force, WithinUse, Above0}
+use Rattle.std.specs.Int.{div_ceil}
+use Rattle.std.proofs.lemmas.Grind.{div_ceil_times}
 use Rattle.joint.specs.Returned.{ceiling_of, scaled_force_of, total_use_of, row_use_of, use_of, DemandWithin, RowWithin}
 use Rattle.joint.proofs.UseSizes.{total_some, row_some}
 use Rattle.joint.proofs.UseLaws.{total_enough, row_enough, total_within, row_within}
@@ -24,6 +26,15 @@ ceiling_reaches a b h = omega (arith, div-add-mod' (a + (b - 1)) b, mod-lt (a + 
 ceiling_tight : (a b : ℕ) → 0 < b → ceiling_of a b * b < a + b
 unfolding ceiling_of
 ceiling_tight a b h = omega (arith, div-add-mod' (a + (b - 1)) b)
+
+-- it is the one that std works out
+no_greater : (a b x y : ℕ) → x * b < a + b → a ≤ y * b → x ≤ y
+no_greater a b x y h g = let l : x < y + 1 = lt_of_mul-lt-mul_right b (omega arith) in omega arith
+
+pub ceiling_is : (a b : ℕ) → 0 < b → div_ceil a b ≡ ceiling_of a b
+ceiling_is a b h =
+    let t = div_ceil_times a b h in
+    le_antisymm (no_greater a b (div_ceil a b) (ceiling_of a b) t.1 (ceiling_reaches a b h)) (no_greater a b (ceiling_of a b) (div_ceil a b) (ceiling_tight a b h) t.0)
 
 -- the greatest of three is one of them
 one_of : (a b c : ℕ) → (max (max a b) c ≡ a) ⊎ ((max (max a b) c ≡ b) ⊎ (max (max a b) c ≡ c))

@@ -44,7 +44,7 @@ fn find_part(bytes: &[u8], bounds: &[usize; PAIRS + 1], kind: Kind) -> Option<Pa
 {
     for k in 0..PAIRS {
         let start = bounds[k];
-        if bytes[start] == kind as u8 {
+        if bytes[start] == kind.code() {
             return Some(Part {
                 start,
                 bytes: bounds[k + 1] - start,
@@ -67,6 +67,7 @@ fn find_parts(bytes: &[u8], bounds: &[usize; PAIRS + 1]) -> Option<Parts>
     })
 }
 
+#[tactic(auto, unfolding(crate::specs::Refusal::positions_length))]
 fn positions_length(part: &[u8]) -> bool
     ensures { result ≡ positions_length part.now }
 {
@@ -75,6 +76,7 @@ fn positions_length(part: &[u8]) -> bool
 }
 
 // Whether each part has a length of its kind.
+#[tactic(auto, unfolding(crate::specs::Stage::sized))]
 fn are_sized(bytes: &[u8], parts: Parts) -> bool
     requires { parts.positions.start + parts.positions.bytes ≤ length bytes.now }
     ensures { result ≡ sized bytes.now parts }

@@ -1,6 +1,8 @@
 // The limits of a record's values: refusals 7 to 9.
-ghost use Rattle.std.specs.Prelude.{◌≡◌, ◌≤◌};
-ghost use Rattle.joint.specs.Refusal.{member_within, coordinates, positions_within, loads_within, outline_empty, first_holding};
+ghost use Rattle.std.specs.Prelude.{◌≡◌};
+ghost use Rattle.std.specs.List.{list_all};
+ghost use Rattle.numbers.specs.Numbers.{coordinate};
+ghost use Rattle.joint.specs.Refusal.{between, member_within, positions_within, loads_within, outline_empty, no_force, first_holding};
 ghost use Rattle.joint.specs.Refusal.{value_tests};
 ghost use Rattle.joint.specs.Told.{refusal_in};
 
@@ -10,80 +12,95 @@ use codes::is_class;
 use numbers::{is_coordinate, is_force};
 
 // Codes of steel, service class and duration count from 1, the grain from 0.
-const FIRST_CODE: u8 = 1;
+const FIRST_CODE: usize = 1;
 
-const LAST_STEEL: u8 = 3;
+const LAST_STEEL: usize = 3;
 
-const LAST_SERVICE_CLASS: u8 = 3;
+const LAST_SERVICE_CLASS: usize = 3;
 
-const LAST_DURATION: u8 = 5;
+const LAST_DURATION: usize = 5;
 
-const ALONG_X: u8 = 0;
+const ALONG_X: usize = 0;
 
-const ALONG_Y: u8 = 1;
+const ALONG_Y: usize = 1;
 
-const LEAST_PLANES: u8 = 1;
+const LEAST_PLANES: usize = 1;
 
-const MOST_PLANES: u8 = 2;
+const MOST_PLANES: usize = 2;
 
 // In tenths of a millimetre.
-const LEAST_THICKNESS: u16 = 200;
+const LEAST_THICKNESS: usize = 200;
 
-const MOST_THICKNESS: u16 = 4000;
+const MOST_THICKNESS: usize = 4000;
 
 // In millimetres.
-const LEAST_DIAMETER: u8 = 6;
+const LEAST_DIAMETER: usize = 6;
 
-const MOST_DIAMETER: u8 = 30;
+const MOST_DIAMETER: usize = 30;
+
+fn is_between(low: usize, high: usize, n: usize) -> bool
+    ensures { result ≡ between low high n }
+{
+    (low..=high).contains(&n)
+}
 
 fn member_within(m: &Member) -> bool
     ensures { result ≡ member_within m.now }
 {
     let o = m.outline;
     is_class(m.class)
-        & (ALONG_X..=ALONG_Y).contains(&m.grain)
-        & (LEAST_THICKNESS..=MOST_THICKNESS).contains(&m.thickness)
+        & is_between(ALONG_X, ALONG_Y, m.grain as usize)
+        & is_between(LEAST_THICKNESS, MOST_THICKNESS, m.thickness as usize)
         & (is_coordinate(o.x0) & is_coordinate(o.y0) & is_coordinate(o.x1) & is_coordinate(o.y1))
 }
 
-// The first n of the numbers are coordinates.
-fn are_coordinates(l: &[i32; MOST_DOWELS], n: usize) -> bool
-    requires { n ≤ 64 }
-    ensures { result ≡ coordinates l.now n }
+fn are_coordinates(l: &[i32]) -> bool
+    ensures { result ≡ list_all coordinate l.now }
 {
-    l[..n].iter().all(|z| is_coordinate(*z))
+    l.iter().all(|z| is_coordinate(*z))
 }
 
 fn positions_within(p: &Positions) -> bool
     ensures { result ≡ positions_within p.now }
 {
-    (1..=MOST_DOWELS).contains(&p.n) && are_coordinates(&p.x, p.n) && are_coordinates(&p.y, p.n)
+    if !is_between(1, MOST_DOWELS, p.n) {
+        return false;
+    }
+    are_coordinates(&p.x[..p.n]) && are_coordinates(&p.y[..p.n])
 }
 
 fn loads_within(l: &Loads) -> bool
     ensures { result ≡ loads_within l.now }
 {
-    (FIRST_CODE..=LAST_SERVICE_CLASS).contains(&l.service_class)
-        & (FIRST_CODE..=LAST_DURATION).contains(&l.duration)
+    is_between(FIRST_CODE, LAST_SERVICE_CLASS, l.service_class as usize)
+        & is_between(FIRST_CODE, LAST_DURATION, l.duration as usize)
         & is_force(l.fx)
         & is_force(l.fy)
 }
 
+#[tactic(auto, unfolding(crate::specs::Refusal::outline_empty))]
 fn outline_empty(o: Outline) -> bool
     ensures { result ≡ outline_empty o }
 {
     o.x1 <= o.x0 || o.y1 <= o.y0
 }
 
+#[tactic(auto, unfolding(crate::specs::Refusal::no_force))]
+fn no_force(l: Loads) -> bool
+    ensures { result ≡ no_force l }
+{
+    l.fx == 0 && l.fy == 0
+}
+
 // Refusals 7 to 9: the first that values have, whether a record has them or a writer is handed them.
 pub fn check_values(v: &Values) -> Result<(), Refusal>
     ensures { refusal_in result ≡ first_holding (value_tests v.now) }
 {
-    let within = (LEAST_PLANES..=MOST_PLANES).contains(&v.members.planes)
+    let within = is_between(LEAST_PLANES, MOST_PLANES, v.members.planes as usize)
         & member_within(&v.members.member1)
         & member_within(&v.members.member2)
-        & ((LEAST_DIAMETER..=MOST_DIAMETER).contains(&v.dowel.diameter)
-            & (FIRST_CODE..=LAST_STEEL).contains(&v.dowel.steel))
+        & (is_between(LEAST_DIAMETER, MOST_DIAMETER, v.dowel.diameter as usize)
+            & is_between(FIRST_CODE, LAST_STEEL, v.dowel.steel as usize))
         & positions_within(&v.positions)
         & loads_within(&v.loads);
     let empty = outline_empty(v.members.member1.outline) | outline_empty(v.members.member2.outline);
@@ -93,7 +110,7 @@ pub fn check_values(v: &Values) -> Result<(), Refusal>
     if empty {
         return Err(Refusal::EmptyOutline);
     }
-    if v.loads.fx == 0 && v.loads.fy == 0 {
+    if no_force(v.loads) {
         return Err(Refusal::NoForce);
     }
     Ok(())

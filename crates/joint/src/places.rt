@@ -21,6 +21,17 @@ pub enum Kind {
     Loads = 4,
 }
 
+impl Kind {
+    ghost use Rattle.std.specs.Prelude.{◌≡◌};
+    ghost use Rattle.joint.specs.Told.{kind_code};
+
+    pub fn code(self) -> u8
+        ensures { result ≡ kind_code self }
+    {
+        self as u8
+    }
+}
+
 // The bytes of the parts that have one length only.
 pub const MEMBERS_BYTES: usize = 42;
 
