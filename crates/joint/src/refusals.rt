@@ -36,6 +36,7 @@ pub enum Rejection {
 
 impl From<Refusal> for Rejection {
     ghost use Rattle.joint.specs.declared.refusals.Rejection.TheVariants.{Record};
+
     ghost from_gives = { λ refusal r. r ≡ Record refusal };
 
     fn from(refusal: Refusal) -> Rejection {
@@ -45,6 +46,7 @@ impl From<Refusal> for Rejection {
 
 impl From<Fault> for Rejection {
     ghost use Rattle.joint.specs.declared.refusals.Rejection.TheVariants.{Plan};
+
     ghost from_gives = { λ fault r. r ≡ Plan fault };
 
     fn from(fault: Fault) -> Rejection {
