@@ -8,10 +8,10 @@ ghost use Rattle.joint.specs.Layout.{pair_fields, member_bytes, members_bytes, d
 ghost use Rattle.put.specs.Front.{outline_fields, front_bytes, Room};
 
 use joint::places::{
-    DOWEL, DOWEL_BYTES, HEADER_BYTES, LOADS, LOADS_BYTES, MEMBER_1, MEMBER_2, MEMBERS,
-    MEMBERS_BYTES, PAIRS, POSITION_BYTES, POSITIONS, POSITIONS_FRONT, VERSION_AT,
+    DOWEL_BYTES, HEADER_BYTES, Kind, LOADS_BYTES, MEMBER_1, MEMBER_2, MEMBERS_BYTES, PAIRS,
+    POSITION_BYTES, POSITIONS_FRONT, VERSION_AT,
 };
-use joint::{Dowel, Loads, MOST_DOWELS, Member, Members, Outline, Positions, Values};
+use joint::{Dowel, Loads, Member, Members, Outline, Positions, Values};
 use numbers::{put_i32, put_u16};
 
 // Where the pairs stand, after version and number of pairs.
@@ -79,28 +79,25 @@ fn put_outline(s: &mut [u8], at: usize, o: Outline)
 }
 
 // Class, grain, thickness, then x0, y0, x1 and y1.
-fn put_member(s: &mut [u8], at: usize, m: Member)
+fn put_member(s: &mut [u8], at: usize, m: &Member)
     requires { at + 20 ≤ length s.old }
-    ensures { s.new ≡ sets s.old at (member_bytes m) }
+    ensures { s.new ≡ sets s.old at (member_bytes m.now) }
 {
-    let o = m.outline;
     s[at] = m.class;
     s[at + 1] = m.grain;
     put_u16(s, at + 2, m.thickness);
-    put_outline(s, at + OUTLINE, o);
+    put_outline(s, at + OUTLINE, m.outline);
 }
 
 // Kind, shear planes, then both members.
-fn put_members(s: &mut [u8], at: usize, m: Members)
+fn put_members(s: &mut [u8], at: usize, m: &Members)
     requires { at + 42 ≤ length s.old }
-    ensures { s.new ≡ sets s.old at (members_bytes m) }
+    ensures { s.new ≡ sets s.old at (members_bytes m.now) }
 {
-    let member1 = m.member1;
-    let member2 = m.member2;
-    s[at] = MEMBERS;
+    s[at] = Kind::Members as u8;
     s[at + 1] = m.planes;
-    put_member(s, at + MEMBER_1, member1);
-    put_member(s, at + MEMBER_2, member2);
+    put_member(s, at + MEMBER_1, &m.member1);
+    put_member(s, at + MEMBER_2, &m.member2);
 }
 
 // Kind, diameter, steel.
@@ -108,34 +105,29 @@ fn put_dowel(s: &mut [u8], at: usize, w: Dowel)
     requires { at + 3 ≤ length s.old }
     ensures { s.new ≡ sets s.old at (dowel_bytes w) }
 {
-    s[at] = DOWEL;
+    s[at] = Kind::Dowel as u8;
     s[at + 1] = w.diameter;
     s[at + 2] = w.steel;
 }
 
-// x and y of the first n dowels.
-fn put_columns(s: &mut [u8], at: usize, x: [i32; MOST_DOWELS], y: [i32; MOST_DOWELS], n: usize)
-    requires { (n ≤ 64) × (at + 8 * n ≤ length s.old) }
-    ensures { s.new ≡ sets s.old at (columns_bytes x y n) }
+// x and y of each dowel.
+fn put_columns(s: &mut [u8], at: usize, p: &Positions)
+    requires { (p.now.n ≤ 64) × (at + 8 * p.now.n ≤ length s.old) }
+    ensures { s.new ≡ sets s.old at (columns_bytes p.now.x p.now.y p.now.n) }
 {
-    let mut i = 0;
-    while i < n {
-        put_point(s, at + POSITION_BYTES * i, x[i], y[i]);
-        i += 1;
+    for i in 0..p.n {
+        put_point(s, at + POSITION_BYTES * i, p.x[i], p.y[i]);
     }
 }
 
 // Kind, N, then x and y of each dowel.
-fn put_positions(s: &mut [u8], at: usize, p: Positions)
-    requires { (p.n ≤ 64) × (at + 2 + 8 * p.n ≤ length s.old) }
-    ensures { s.new ≡ sets s.old at (positions_bytes p) }
+fn put_positions(s: &mut [u8], at: usize, p: &Positions)
+    requires { (p.now.n ≤ 64) × (at + 2 + 8 * p.now.n ≤ length s.old) }
+    ensures { s.new ≡ sets s.old at (positions_bytes p.now) }
 {
-    let n = p.n;
-    let x = p.x;
-    let y = p.y;
-    s[at] = POSITIONS;
-    s[at + 1] = n as u8;
-    put_columns(s, at + POSITIONS_FRONT, x, y, n);
+    s[at] = Kind::Positions as u8;
+    s[at + 1] = p.n as u8;
+    put_columns(s, at + POSITIONS_FRONT, p);
 }
 
 // Kind, service class, duration, then fx and fy.
@@ -143,28 +135,24 @@ fn put_loads(s: &mut [u8], at: usize, l: Loads)
     requires { at + 11 ≤ length s.old }
     ensures { s.new ≡ sets s.old at (loads_bytes l) }
 {
-    s[at] = LOADS;
+    s[at] = Kind::Loads as u8;
     s[at + 1] = l.service_class;
     s[at + 2] = l.duration;
     put_point(s, at + FORCE, l.fx, l.fy);
 }
 
-pub fn put_record(buffer: &mut [u8], v: Values)
-    requires { Room v.positions.n (length buffer.old) }
-    ensures { buffer.new ≡ bytes_of v ++ drop (length (bytes_of v)) buffer.old }
+pub fn put_record(buffer: &mut [u8], v: &Values)
+    requires { Room v.now.positions.n (length buffer.old) }
+    ensures { buffer.new ≡ bytes_of v.now ++ drop (length (bytes_of v.now)) buffer.old }
 {
-    let members = v.members;
-    let dowel = v.dowel;
-    let positions = v.positions;
-    let loads = v.loads;
-    let n = positions.n;
+    let n = v.positions.n;
     put_front(buffer, v.version, n);
-    put_members(buffer, MEMBERS_AT, members);
-    put_dowel(buffer, DOWEL_AT, dowel);
-    put_positions(buffer, POSITIONS_AT, positions);
+    put_members(buffer, MEMBERS_AT, &v.members);
+    put_dowel(buffer, DOWEL_AT, v.dowel);
+    put_positions(buffer, POSITIONS_AT, &v.positions);
     put_loads(
         buffer,
         POSITIONS_AT + POSITIONS_FRONT + POSITION_BYTES * n,
-        loads,
+        v.loads,
     );
 }

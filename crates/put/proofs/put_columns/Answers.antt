@@ -15,13 +15,13 @@ use Rattle.put.proofs.put_columns.Goals as goal
 
 pub loop-i-init : goal.loop-i-init
 unfolding columns_bytes
-loop-i-init c = (search rules, record { is = refl })
+loop-i-init c = record { is = refl }
 
 pub loop-i-preserved : goal.loop-i-preserved
 unfolding columns_bytes
-loop-i-preserved c = let a = c.args in
+loop-i-preserved c = let a = c.args.p.now in
     let i = c.loop-i.i in
     let x : to_z w32 (of_z w32 (get_or a.x i (pos 0))) ≡ get_or a.x i (pos 0) = search rules in
     let y : to_z w32 (of_z w32 (get_or a.y i (pos 0))) ≡ get_or a.y i (pos 0) = search rules in
     let point = field_bytes position_fields (get_or a.x i (pos 0) ∷ get_or a.y i (pos 0) ∷ []) in
-    (search rules, rw add-one (next c.loop-i.invariant.1 point (columns_length a.x a.y i) (simp (x, y) at c.put_point.ensures)))
+    rw add-one (next c.loop-i.invariant point (columns_length a.x a.y i) (simp (x, y) at c.put_point.ensures))

@@ -11,7 +11,7 @@ use Rattle.put.proofs.put_member.Goals as goal
 pub returns : goal.returns
 unfolding member_bytes
 returns c = let a = c.args in
-    let m = a.m in
+    let m = a.m.now in
     let o = m.outline in
     let front = next (first a.s.now a.at (m.class ∷ []) refl) (m.grain ∷ []) refl refl in
     let thick = next front (u16_bytes m.thickness) refl c.put_u16.ensures in
