@@ -33,7 +33,7 @@ use Rattle.joint.specs.declared.Values.{Values}
 use Rattle.joint.specs.declared.layout.Part.{Part}
 use Rattle.joint.specs.declared.layout.Parts.{Parts}
 use Rattle.joint.proofs.Holding.{numbered, no_number}
-use Rattle.joint.proofs.Tests.{equal, unequal, zero_bits}
+use Rattle.joint.proofs.Tests.{equal, unequal, lacking, having}
 
 -- ---- refusal 4: what a right chain says of its parts
 offset_is : (s : List ℕ) (k : ℕ) → offset_of Two s 4 k ≡ pair_offset s (suc k)
@@ -199,19 +199,11 @@ pair_in P f s kind = of (eqb (kind_of_pair s 1) kind) (eqb (kind_of_pair s 2) ki
 module _ (s : List ℕ) (kind : ℕ) where
   pub not_present : None ≡ found s kind → present s kind ≡ false
   unfolding found
-  not_present e = of (present s kind) e
-    where
-      of : (b : Bool) → None ≡ cond b (Some (part_at s (pair_of_kind s kind))) None → b ≡ false
-      of true h = cc h
-      of false h = refl
+  not_present e = lacking _ e
 
   pub is_present : {p : Part} → Some p ≡ found s kind → (present s kind ≡ true) × (p ≡ part_at s (pair_of_kind s kind))
   unfolding found
-  is_present {p} e = of (present s kind) e
-    where
-      of : (b : Bool) → Some p ≡ cond b (Some (part_at s (pair_of_kind s kind))) None → (b ≡ true) × (p ≡ part_at s (pair_of_kind s kind))
-      of true h = (refl, cc)
-      of false h = cc h
+  is_present e = having e
 
 -- the four of them
 module _ (s : List ℕ) where
@@ -230,19 +222,11 @@ module _ (s : List ℕ) where
 
   pub kinds_missing : None ≡ all_found s → refusal5 s ≡ true
   unfolding all_found
-  kinds_missing e = five ∙ ap not (of all_present e)
-    where
-      of : (b : Bool) → None ≡ cond b (Some (parts_of s)) None → b ≡ false
-      of true h = cc h
-      of false h = refl
+  kinds_missing e = five ∙ ap not (lacking _ e)
 
   pub kinds_there : {p : Parts} → Some p ≡ all_found s → (refusal5 s ≡ false) × (p ≡ parts_of s)
   unfolding all_found
-  kinds_there {p} e = let t = of all_present e in (five ∙ ap not t.0, t.1)
-    where
-      of : (b : Bool) → Some p ≡ cond b (Some (parts_of s)) None → (b ≡ true) × (p ≡ parts_of s)
-      of true h = (refl, cc)
-      of false h = cc h
+  kinds_there e = let t = having e in (five ∙ ap not t.0, t.1)
 
 -- a part of a right chain lies within the record, and its length is its pair's
 module _ {s : List ℕ} (h : Parted s) where

@@ -1,6 +1,7 @@
 -- A call's flag that a branch went by: what the call ensures of the flag, and which way the branch went.
 use mathlib.Core.Path.{◌≡◌, refl, sym, ◌∙◌}
-use mathlib.Core.Bool.{Bool, true, false}
+use mathlib.Core.Bool.{Bool, true, false, cond}
+use Rattle.std.specs.Prelude.{Option, Some, None}
 use Prim.Native.Nat.{ℕ, ◌<◌}
 use borrow.Author.Tests.{eq-eqb, ne_eqb}
 use native.Mathlib.Omega.{arith}
@@ -34,3 +35,12 @@ equal e h = eq-eqb _ _ (sym e ∙ h)
 
 pub unequal : {r t n : ℕ} → r ≡ t → (r ≡ n → ⊥) → eqb t n ≡ false
 unequal e h = ne_eqb _ _ (λ q. h (e ∙ q))
+
+-- what an answer that is there where a test holds says of the test
+pub lacking : {A : Type 0} {b : Bool} (x : A) → None ≡ cond b (Some x) None → b ≡ false
+lacking {b = true} x h = cc h
+lacking {b = false} x h = refl
+
+pub having : {A : Type 0} {b : Bool} {x y : A} → Some y ≡ cond b (Some x) None → (b ≡ true) × (y ≡ x)
+having {b = true} h = (refl, cc)
+having {b = false} h = cc h

@@ -19,64 +19,11 @@ use Rattle.joint.specs.Returned.{FieldsHold}
 use Rattle.joint.proofs.Accepted.{fields_hold}
 use Rattle.writer.specs.declared.MemberFields.{MemberFields}
 use Rattle.writer.specs.declared.Fields.{Fields}
-use Rattle.writer.specs.Write.{member_from, values_from, is_unsigned, member_unsigned, fields_unsigned}
-use Rattle.writer.specs.Working.{fits_byte, fits_two_bytes, member_fits, fields_fit, MemberFit, FieldsFit}
-
--- ---- a cast loses nothing
-pub byte_cast : (z : ℤ) → fits_byte z ≡ true → T (non_neg z) × Fits w8 (nat_abs z)
-byte_cast (pos n) h = let l = leb-true n 255 ((and-eq-true_iff (leb 0 n) (leb n 255)).0 h).1 in (tt, record { fits = omega (arith, l) })
-byte_cast (negsuc n) h = absurd (false≢true h)
-
-pub two_bytes_cast : (z : ℤ) → fits_two_bytes z ≡ true → T (non_neg z) × Fits w16 (nat_abs z)
-two_bytes_cast (pos n) h = let l = leb-true n 65535 ((and-eq-true_iff (leb 0 n) (leb n 65535)).0 h).1 in (tt, record { fits = omega (arith, l) })
-two_bytes_cast (negsuc n) h = absurd (false≢true h)
-
--- ---- the version
-pub version_wide : (z : ℤ) → fits_two_bytes z ≡ false → true ≡ not (is_unsigned z && is_version (nat_abs z))
-version_wide (negsuc n) h = refl
-version_wide (pos n) h = of (eqb n 1) refl
-  where
-    of : (b : Bool) → eqb n 1 ≡ b → true ≡ not (leb 0 n && eqb n 1)
-    of true e = absurd (false≢true (sym h ∙ ap (λ (k : ℕ). fits_two_bytes (pos k)) (eqb-true n 1 e)))
-    of false e = simp (e, and-false)
-
-pub version_held : (z : ℤ) → fits_two_bytes z ≡ true → not (is_version (nat_abs z)) ≡ not (is_unsigned z && is_version (nat_abs z))
-version_held z h = let p = (and-eq-true_iff (is_unsigned z) (le_z z (pos 65535))).0 h in simp p.0
-
--- ---- the tests, number by number
-member_fit : (m : MemberFields) → member_fits m ≡ true → MemberFit m
-unfolding member_fits
-member_fit m h =
-    let p = (and-eq-true_iff (fits_byte m.class && fits_byte m.grain) (fits_two_bytes m.thickness)).0 h in
-    let q = (and-eq-true_iff (fits_byte m.class) (fits_byte m.grain)).0 p.0 in
-    record { class = q.0; grain = q.1; thickness = p.1 }
-
-pub fields_fit_lem : (f : Fields) → fits_two_bytes f.version ≡ true → fields_fit f ≡ true → FieldsFit f
-unfolding fields_fit
-fields_fit_lem f v h =
-    let split : (a b : Bool) → (a && b) ≡ true → (a ≡ true) × (b ≡ true) = λ a b k. (and-eq-true_iff a b).0 k in
-    let planes = fits_byte f.planes in
-    let m1 = member_fits f.member1 in
-    let m2 = member_fits f.member2 in
-    let d = fits_byte f.diameter in
-    let s = fits_byte f.steel in
-    let c = fits_byte f.service_class in
-    let p6 = split (planes && m1 && m2 && d && s && c) (fits_byte f.duration) h in
-    let p5 = split (planes && m1 && m2 && d && s) c p6.0 in
-    let p4 = split (planes && m1 && m2 && d) s p5.0 in
-    let p3 = split (planes && m1 && m2) d p4.0 in
-    let p2 = split (planes && m1) m2 p3.0 in
-    let p1 = split planes m1 p2.0 in
-    record {
-      version = v;
-      planes = p1.0;
-      member1 = member_fit f.member1 p1.1;
-      member2 = member_fit f.member2 p2.1;
-      diameter = p3.1;
-      steel = p4.1;
-      service = p5.1;
-      duration = p6.1;
-    }
+use Rattle.std.specs.Prelude.{Some, None}
+use Rattle.joint.proofs.Tests.{lacking, having}
+use Rattle.joint.specs.declared.Member.{Member}
+use Rattle.writer.specs.Write.{member_from, placed, values_from, is_unsigned, version_unknown, member_unsigned, fields_unsigned}
+use Rattle.writer.specs.Working.{fits_byte, fits_two_bytes, member_fits, fields_fit, fitting}
 
 -- ---- what has no sign and is within its limits fits
 byte_within : (z : ℤ) → is_unsigned z ≡ true → nat_abs z ≤ 255 → fits_byte z ≡ true
@@ -124,33 +71,104 @@ module _ (f : Fields) (x y : List ℤ) (u : fields_unsigned f ≡ true) (w : fie
   unfolding values_from
   lists_within = holds.dowels_high
 
+-- ---- the version: where it fits two bytes, whether it is known
+version_wide : (z : ℤ) → fits_two_bytes z ≡ false → (is_unsigned z && is_version (nat_abs z)) ≡ false
+version_wide z h = of (is_unsigned z && is_version (nat_abs z)) refl
+  where
+    of : (b : Bool) → (is_unsigned z && is_version (nat_abs z)) ≡ b → b ≡ false
+    of false e = refl
+    of true e =
+        let p = (and-eq-true_iff (is_unsigned z) (is_version (nat_abs z))).0 e in
+        absurd (false≢true (sym h ∙ two_bytes_within z p.0 (omega (arith, eqb-true (nat_abs z) 1 p.1))))
+
+module _ (f : Fields) where
+  pub wide_version : None ≡ fitting (fits_two_bytes f.version) (nat_abs f.version) → None ≡ fitting (not (version_unknown f)) (nat_abs f.version)
+  unfolding version_unknown
+  wide_version e = simp (version_wide f.version (lacking _ e))
+
+  module _ {n : ℕ} (e : Some n ≡ fitting (fits_two_bytes f.version) (nat_abs f.version)) where
+    number : is_version n ≡ is_version (nat_abs f.version)
+    number = ap is_version (having e).1
+
+    unsigned : is_unsigned f.version ≡ true
+    unsigned = ((and-eq-true_iff (is_unsigned f.version) (le_z f.version (pos 65535))).0 (having e).0).0
+
+    pub known : is_version n ≡ true → Some n ≡ fitting (not (version_unknown f)) (nat_abs f.version)
+    unfolding version_unknown
+    known h = simp (unsigned, sym number ∙ h) (ap (λ (k : ℕ). Some k) (having e).1)
+
+    pub unknown : is_version n ≡ false → None ≡ fitting (not (version_unknown f)) (nat_abs f.version)
+    unfolding version_unknown
+    unknown h = simp (unsigned, sym number ∙ h)
+
 -- ---- what fits has no sign
-pub version_fits : (z : ℤ) → not (is_unsigned z && is_version (nat_abs z)) ≡ false → fits_two_bytes z ≡ true
-version_fits z h =
-    let p = (and-eq-true_iff (is_unsigned z) (is_version (nat_abs z))).0 (not-false (is_unsigned z && is_version (nat_abs z)) h) in
-    two_bytes_within z p.0 (omega (arith, eqb-true (nat_abs z) 1 p.1))
-
-unsigned_in : (high z : ℤ) → between_z (pos 0) high z ≡ true → is_unsigned z ≡ true
-unsigned_in high z h = ((and-eq-true_iff (is_unsigned z) (le_z z high)).0 h).0
-
-member_unsigned_lem : (m : MemberFields) → MemberFit m → member_unsigned m ≡ true
-unfolding member_unsigned
+member_unsigned_lem : (m : MemberFields) → member_fits m ≡ true → member_unsigned m ≡ true
+unfolding member_fits member_unsigned
 member_unsigned_lem m h =
+    let p = simp and-eq-true_iff at h in
+    simp (p.0.0.0, p.0.1.0, p.1.0)
+
+pub fields_unsigned_lem : (f : Fields) → fields_fit f ≡ true → fields_unsigned f ≡ true
+unfolding fields_fit fields_unsigned
+fields_unsigned_lem f h =
+    let p = simp and-eq-true_iff at h in
     simp (
-      unsigned_in (pos 255) m.class h.class,
-      unsigned_in (pos 255) m.grain h.grain,
-      unsigned_in (pos 65535) m.thickness h.thickness,
+      p.0.0.0.0.0.0.0,
+      member_unsigned_lem f.member1 p.0.0.0.0.0.1,
+      member_unsigned_lem f.member2 p.0.0.0.0.1,
+      p.0.0.0.1.0,
+      p.0.0.1.0,
+      p.0.1.0,
+      p.1.0,
     )
 
-pub fields_unsigned_lem : (f : Fields) → FieldsFit f → fields_unsigned f ≡ true
-unfolding fields_unsigned
-fields_unsigned_lem f h =
-    simp (
-      unsigned_in (pos 255) f.planes h.planes,
-      member_unsigned_lem f.member1 h.member1,
-      member_unsigned_lem f.member2 h.member2,
-      unsigned_in (pos 255) f.diameter h.diameter,
-      unsigned_in (pos 255) f.steel h.steel,
-      unsigned_in (pos 255) f.service_class h.service,
-      unsigned_in (pos 255) f.duration h.duration,
-    )
+-- ---- the values, where every number fits
+pub member_whole : (m : MemberFields) {class grain thickness : ℕ} → Some class ≡ fitting (fits_byte m.class) (nat_abs m.class)
+    → Some grain ≡ fitting (fits_byte m.grain) (nat_abs m.grain)
+    → Some thickness ≡ fitting (fits_two_bytes m.thickness) (nat_abs m.thickness)
+    → Some (record { class = class; grain = grain; thickness = thickness; outline = record { x0 = m.x0; y0 = m.y0; x1 = m.x1; y1 = m.y1 } })
+    ≡ fitting (member_fits m) (member_from m)
+unfolding member_fits
+member_whole m a b c =
+    let class = having a in
+    let grain = having b in
+    let thickness = having c in
+    simp (class.0, grain.0, thickness.0)
+    (λ i. Some (record {
+      class = class.1 i;
+      grain = grain.1 i;
+      thickness = thickness.1 i;
+      outline = record { x0 = m.x0; y0 = m.y0; x1 = m.x1; y1 = m.y1 };
+    }))
+
+pub values_whole : (f : Fields) (x y : List ℤ) {version planes diameter steel service duration : ℕ} {m1 m2 : Member} {xs ys : List ℤ}
+    → Some planes ≡ fitting (fits_byte f.planes) (nat_abs f.planes) → Some m1 ≡ fitting (member_fits f.member1) (member_from f.member1)
+    → Some m2 ≡ fitting (member_fits f.member2) (member_from f.member2)
+    → Some diameter ≡ fitting (fits_byte f.diameter) (nat_abs f.diameter) → Some steel ≡ fitting (fits_byte f.steel) (nat_abs f.steel)
+    → Some service ≡ fitting (fits_byte f.service_class) (nat_abs f.service_class)
+    → Some duration ≡ fitting (fits_byte f.duration) (nat_abs f.duration) → version ≡ nat_abs f.version → xs ≡ placed x → ys ≡ placed y
+    → Some (record {
+      version = version;
+      members = record { planes = planes; member1 = m1; member2 = m2 };
+      dowel = record { diameter = diameter; steel = steel };
+      positions = record { n = length x; x = xs; y = ys };
+      loads = record { service_class = service; duration = duration; fx = f.fx; fy = f.fy };
+    })
+    ≡ fitting (fields_fit f) (values_from f x y)
+unfolding fields_fit values_from
+values_whole f x y a b c d e g h version xs ys =
+    let planes = having a in
+    let m1 = having b in
+    let m2 = having c in
+    let diameter = having d in
+    let steel = having e in
+    let service = having g in
+    let duration = having h in
+    simp (planes.0, m1.0, m2.0, diameter.0, steel.0, service.0, duration.0)
+    (λ i. Some (record {
+      version = version i;
+      members = record { planes = planes.1 i; member1 = m1.1 i; member2 = m2.1 i };
+      dowel = record { diameter = diameter.1 i; steel = steel.1 i };
+      positions = record { n = length x; x = xs i; y = ys i };
+      loads = record { service_class = service.1 i; duration = duration.1 i; fx = f.fx; fy = f.fy };
+    }))

@@ -1,3 +1,4 @@
 pub mod Write
+pub mod Told
 pub mod Read
 pub mod Working

@@ -13,7 +13,6 @@ use Rattle.joint.specs.Refusal.{Test, test, first_holding}
 use Rattle.joint.specs.Refusal.{value_tests}
 use Rattle.writer.specs.declared.MemberFields.{MemberFields}
 use Rattle.writer.specs.declared.Fields.{Fields}
-use Rattle.writer.specs.declared.Written.{Written}
 
 -- ---- what is handed over, as a record's values. Version 1 has no field for gx, gy, plate and marks. A field without a sign takes a number's
 -- size; the tests below turn a number away that is below 0 there.
@@ -89,7 +88,11 @@ handed_tests f x y =
 unfoldable pub writer_tests : Fields → List ℤ → List ℤ → ℕ → List Test
 writer_tests f x y room = handed_tests f x y ++ test 13 (ltb room (length (bytes_of (values_from f x y)))) ∷ []
 
--- ---- the answer
+-- ---- the answer: a refusal and length 0; or number 0 and how many bytes the record has
+pub record Written : Type 0 where
+  pub number : ℕ
+  pub length : ℕ
+
 unfoldable pub writer_number : Fields → List ℤ → List ℤ → ℕ → ℕ
 writer_number f x y room = first_holding (writer_tests f x y room)
 

@@ -1,114 +1,49 @@
-// A firm's numbers as a record's values: whether each fits its field, and the values themselves.
-ghost use Rattle.std.specs.Prelude.{◌≡◌, true, ◌≤◌, pos, nat_abs, length};
-ghost use Rattle.numbers.specs.Numbers.{between_z};
-ghost use Rattle.writer.specs.Write.{member_from, members_from, dowel_from, loads_from, placed, values_from, version_unknown};
-ghost use Rattle.writer.specs.Working.{fits_byte, fits_two_bytes, member_fits, fields_fit, MemberFit, FieldsFit};
+// A firm's numbers as a record's values, where each fits its field.
+ghost use Rattle.std.specs.Prelude.{◌≡◌, not, ◌≤◌, nat_abs, length};
+ghost use Rattle.writer.specs.Write.{member_from, placed, values_from, version_unknown};
+ghost use Rattle.writer.specs.Working.{fits_byte, fits_two_bytes, member_fits, fields_fit, fitting};
 
 use crate::{Fields, MemberFields};
 use joint::{Dowel, Loads, MOST_DOWELS, Member, Members, Outline, Positions, Values};
 
-// The greatest numbers of one byte and of two.
-const MOST_BYTE: i32 = 255;
-
-const MOST_TWO_BYTES: i32 = 65535;
-
-fn fits(most: i32, z: i32) -> bool
-    ensures { result ≡ between_z (pos 0) most z }
+fn byte_from(z: &i32) -> Option<u8>
+    ensures { result ≡ fitting (fits_byte z.now) (nat_abs z.now) }
 {
-    (0 <= z) & (z <= most)
+    u8::try_from(*z).ok()
 }
 
-fn member_fits(m: MemberFields) -> bool
-    ensures { result ≡ member_fits m }
+fn two_bytes_from(z: &i32) -> Option<u16>
+    ensures { result ≡ fitting (fits_two_bytes z.now) (nat_abs z.now) }
 {
-    fits(MOST_BYTE, m.class) & fits(MOST_BYTE, m.grain) & fits(MOST_TWO_BYTES, m.thickness)
+    u16::try_from(*z).ok()
 }
 
-pub(crate) fn fields_fit(f: Fields) -> bool
-    ensures { result ≡ fields_fit f }
+// The version, a number of any size, where it is known.
+pub(crate) fn known_version(f: &Fields) -> Option<u16>
+    ensures { result ≡ fitting (not (version_unknown f.now)) (nat_abs f.now.version) }
 {
-    fits(MOST_BYTE, f.planes)
-        & member_fits(f.member1)
-        & member_fits(f.member2)
-        & fits(MOST_BYTE, f.diameter)
-        & fits(MOST_BYTE, f.steel)
-        & fits(MOST_BYTE, f.service_class)
-        & fits(MOST_BYTE, f.duration)
-}
-
-// Whether the version is not known, as a number of any size.
-pub(crate) fn version_unknown(f: Fields) -> bool
-    ensures { result ≡ version_unknown f }
-{
-    let version = f.version;
-    if !fits(MOST_TWO_BYTES, version) {
-        return true;
+    let version = two_bytes_from(&f.version)?;
+    if codes::is_version(version) {
+        Some(version)
+    } else {
+        None
     }
-    !codes::is_version(version as u16)
 }
 
-fn byte_of(z: i32) -> u8
-    requires { fits_byte z ≡ true }
-    ensures { result ≡ nat_abs z }
+fn member_from(m: &MemberFields) -> Option<Member>
+    ensures { result ≡ fitting (member_fits m.now) (member_from m.now) }
 {
-    z as u8
-}
-
-fn two_bytes_of(z: i32) -> u16
-    requires { fits_two_bytes z ≡ true }
-    ensures { result ≡ nat_abs z }
-{
-    z as u16
-}
-
-fn member_from(m: MemberFields) -> Member
-    requires { MemberFit m }
-    ensures { result ≡ member_from m }
-{
-    Member {
-        class: byte_of(m.class),
-        grain: byte_of(m.grain),
-        thickness: two_bytes_of(m.thickness),
+    Some(Member {
+        class: byte_from(&m.class)?,
+        grain: byte_from(&m.grain)?,
+        thickness: two_bytes_from(&m.thickness)?,
         outline: Outline {
             x0: m.x0,
             y0: m.y0,
             x1: m.x1,
             y1: m.y1,
         },
-    }
-}
-
-fn members_from(f: Fields) -> Members
-    requires { FieldsFit f }
-    ensures { result ≡ members_from f }
-{
-    Members {
-        planes: byte_of(f.planes),
-        member1: member_from(f.member1),
-        member2: member_from(f.member2),
-    }
-}
-
-fn dowel_from(f: Fields) -> Dowel
-    requires { FieldsFit f }
-    ensures { result ≡ dowel_from f }
-{
-    Dowel {
-        diameter: byte_of(f.diameter),
-        steel: byte_of(f.steel),
-    }
-}
-
-fn loads_from(f: Fields) -> Loads
-    requires { FieldsFit f }
-    ensures { result ≡ loads_from f }
-{
-    Loads {
-        service_class: byte_of(f.service_class),
-        duration: byte_of(f.duration),
-        fx: f.fx,
-        fy: f.fy,
-    }
+    })
 }
 
 // A list's numbers, and then 0.
@@ -117,27 +52,38 @@ fn placed(l: &[i32]) -> [i32; MOST_DOWELS]
     ensures { result ≡ placed l.now }
 {
     let mut places = [0i32; MOST_DOWELS];
-    let mut i = 0;
-    while i < l.len() {
-        let z = l[i];
-        places[i] = z;
-        i += 1;
+    for i in 0..l.len() {
+        places[i] = l[i];
     }
     places
 }
 
-pub(crate) fn values_from(f: Fields, x: &[i32], y: &[i32]) -> Values
-    requires { FieldsFit f × (length x.now ≤ 64) × (length y.now ≤ 64) }
-    ensures { result ≡ values_from f x.now y.now }
+pub(crate) fn values_from(version: u16, f: &Fields, x: &[i32], y: &[i32]) -> Option<Values>
+    requires known { version ≡ nat_abs f.now.version }
+    requires few { (length x.now ≤ 64) × (length y.now ≤ 64) }
+    ensures { result ≡ fitting (fields_fit f.now) (values_from f.now x.now y.now) }
 {
-    let n = x.len();
-    let xs = placed(x);
-    let ys = placed(y);
-    Values {
-        version: two_bytes_of(f.version),
-        members: members_from(f),
-        dowel: dowel_from(f),
-        positions: Positions { n, x: xs, y: ys },
-        loads: loads_from(f),
-    }
+    Some(Values {
+        version,
+        members: Members {
+            planes: byte_from(&f.planes)?,
+            member1: member_from(&f.member1)?,
+            member2: member_from(&f.member2)?,
+        },
+        dowel: Dowel {
+            diameter: byte_from(&f.diameter)?,
+            steel: byte_from(&f.steel)?,
+        },
+        positions: Positions {
+            n: x.len(),
+            x: placed(x),
+            y: placed(y),
+        },
+        loads: Loads {
+            service_class: byte_from(&f.service_class)?,
+            duration: byte_from(&f.duration)?,
+            fx: f.fx,
+            fy: f.fy,
+        },
+    })
 }

@@ -5,8 +5,8 @@ ghost use Rattle.writer.specs.Read.{member_to, fields_of, marks_of};
 use crate::{Fields, MemberFields};
 use joint::{MOST_DOWELS, Member, Values};
 
-fn member_to(m: Member) -> MemberFields
-    ensures { result ≡ member_to m }
+fn member_to(m: &Member) -> MemberFields
+    ensures { result ≡ member_to m.now }
 {
     MemberFields {
         class: m.class as i32,
@@ -22,18 +22,14 @@ fn member_to(m: Member) -> MemberFields
 }
 
 // All numbers but those of the dowels.
-pub fn fields_of(v: Values) -> Fields
-    ensures { result ≡ fields_of v }
+pub fn fields_of(v: &Values) -> Fields
+    ensures { result ≡ fields_of v.now }
 {
-    let side = v.members.member1;
-    let other = v.members.member2;
-    let member1 = member_to(side);
-    let member2 = member_to(other);
     Fields {
         version: v.version as i32,
         planes: v.members.planes as i32,
-        member1,
-        member2,
+        member1: member_to(&v.members.member1),
+        member2: member_to(&v.members.member2),
         diameter: v.dowel.diameter as i32,
         steel: v.dowel.steel as i32,
         plate: 0,
@@ -45,8 +41,8 @@ pub fn fields_of(v: Values) -> Fields
 }
 
 // The marks of all places.
-pub fn marks_of(v: Values) -> [i32; MOST_DOWELS]
-    ensures { result ≡ marks_of v }
+pub fn marks_of(v: &Values) -> [i32; MOST_DOWELS]
+    ensures { result ≡ marks_of v.now }
 {
     [0i32; MOST_DOWELS]
 }

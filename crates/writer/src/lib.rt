@@ -3,16 +3,18 @@
 
 ghost use Rattle.std.specs.Prelude.{◌≡◌};
 ghost use Rattle.writer.specs.Write.{Wrote};
+ghost use Rattle.writer.specs.Told.{told};
 
 mod check;
 pub mod handed;
 
+use joint::MOST_DOWELS;
+use joint::limits::check_values;
 use joint::places::POSITION_BYTES;
-use joint::refusals::{FIELD_OUTSIDE, OTHER_VERSION};
-use joint::{MOST_DOWELS, refusal_of_values};
+use joint::refusals::Refusal;
 use put::put_record;
 
-// The writer's own refusal; the others are those of a record's values.
+// The number of the writer's own refusal; the others are those of a record's values.
 pub const BUFFER_TOO_SHORT: u8 = 13;
 
 // Bytes of a record without dowels.
@@ -48,41 +50,62 @@ pub struct Fields {
     pub fy: i32,
 }
 
-// A refusal and length 0; or number 0 and how many bytes the record has.
-#[derive(Clone, Copy)]
-pub struct Written {
-    pub number: u8,
-    pub length: usize,
+// Why a record is not written: a refusal of its values, or a buffer that is shorter than the record.
+#[derive(Clone, Copy, PartialEq, Eq, Debug)]
+pub enum Unwritten {
+    Values(Refusal),
+    BufferTooShort,
 }
 
-fn refused(number: u8) -> Written
-    ensures { result ≡ record { number = number; length = 0 } }
-{
-    Written { number, length: 0 }
+impl Unwritten {
+    ghost use Rattle.writer.specs.Told.{number_of};
+
+    pub fn number(self) -> u8
+        ensures { result ≡ number_of self }
+    {
+        match self {
+            Unwritten::Values(refusal) => refusal.number(),
+            Unwritten::BufferTooShort => BUFFER_TOO_SHORT,
+        }
+    }
+}
+
+impl From<Refusal> for Unwritten {
+    ghost use Rattle.writer.specs.declared.Unwritten.TheVariants.{Values};
+
+    ghost from_gives = { λ refusal r. r ≡ Values refusal };
+
+    fn from(refusal: Refusal) -> Unwritten {
+        Unwritten::Values(refusal)
+    }
 }
 
 // Writes the record of a firm's numbers, in the version that they name, into the buffer's first bytes and reports how many. The tests of a
-// record's values come first, and then whether the buffer is long enough; on refusal the buffer stays as it is and the length is 0.
-// Version 1 has no marks, and they are not looked at.
-pub fn write(f: Fields, x: &[i32], y: &[i32], marks: &[i32], buffer: &mut [u8]) -> Written
-    ensures { Wrote f x.now y.now buffer.old buffer.new result }
+// record's values come first, and then whether the buffer is long enough; on refusal the buffer stays as it is. Version 1 has no marks, and
+// they are not looked at.
+pub fn write(
+    f: &Fields,
+    x: &[i32],
+    y: &[i32],
+    marks: &[i32],
+    buffer: &mut [u8],
+) -> Result<usize, Unwritten>
+    ensures { Wrote f.now x.now y.now buffer.old buffer.new (told result) }
 {
-    if check::version_unknown(f) {
-        return refused(OTHER_VERSION);
+    let Some(version) = check::known_version(f) else {
+        return Err(Refusal::OtherVersion.into());
+    };
+    if y.len() != x.len() || MOST_DOWELS < x.len() {
+        return Err(Refusal::FieldOutside.into());
     }
-    let n = x.len();
-    if !check::fields_fit(f) | (y.len() != n) | (MOST_DOWELS < n) {
-        return refused(FIELD_OUTSIDE);
-    }
-    let length = RECORD_BYTES + POSITION_BYTES * n;
-    let values = check::values_from(f, x, y);
-    let number = refusal_of_values(values);
-    if number != 0 {
-        return refused(number);
-    }
+    let Some(values) = check::values_from(version, f, x, y) else {
+        return Err(Refusal::FieldOutside.into());
+    };
+    check_values(&values)?;
+    let length = RECORD_BYTES + POSITION_BYTES * x.len();
     if buffer.len() < length {
-        return refused(BUFFER_TOO_SHORT);
+        return Err(Unwritten::BufferTooShort);
     }
-    put_record(buffer, values);
-    Written { number: 0, length }
+    put_record(buffer, &values);
+    Ok(length)
 }

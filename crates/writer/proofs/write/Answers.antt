@@ -1,50 +1,46 @@
 -- Each return by the law of its test.
-use lib.ListN.{length}
-use Prim.Native.Nat.{◌≤◌}
-use Rattle.writer.specs.Working.{FieldsFit}
-use Rattle.writer.proofs.Steps.{version_refused, fields_refused, values_given, values_refused, buffer_refused, put_given, written}
+use Rattle.std.proofs.lemmas.Result.{err_from_is_err_and}
+use Rattle.writer.proofs.Steps.{version_refused, lists_differ, lists_long, fields_refused, values_refused, buffer_refused, put_given, written}
 use Rattle.writer.proofs.write.Goals as goal
+use Rattle.writer.proofs.write.Goals.{then-y-x-via-then-y-x, then-y-x-via-else-y-x+then-x-gt-MOST_DOWELS}
 
-pub returns-then-version_unknown : goal.returns-then-version_unknown
-returns-then-version_unknown c = version_refused _ _ _ _ c.version_unknown.ensures c.if-version_unknown.true c.refused.ensures
+pub returns-in_default : goal.returns-in_default
+returns-in_default c = rw c.into.ensures (version_refused _ _ _ _ c.in_default.ensures)
 
-pub returns-then-fields_fit-y : goal.returns-then-fields_fit-y
-returns-then-fields_fit-y c = fields_refused _ _ _ _ c.version_unknown.ensures c.if-version_unknown.false c.fields_fit.ensures c.if-fields_fit-y.true
-    c.refused-then-fields_fit-y.ensures
+pub returns-then-y-x : goal.returns-then-y-x
+returns-then-y-x c =
+    rw c.into-then-y-x.ensures
+    (elim c.then-y-x.branch [
+      | then-y-x-via-then-y-x w ↦ lists_differ _ _ _ _ c.in-Some.ensures w.if-y-x.true
+      | then-y-x-via-else-y-x+then-x-gt-MOST_DOWELS w ↦ lists_long _ _ _ _ c.in-Some.ensures w.if-x-gt-MOST_DOWELS.true
+    ])
 
-pub values_from-values-requires : goal.values_from-values-requires
-values_from-values-requires c = let given : let a = c.args in FieldsFit a.f × (length a.x.now ≤ 64) × (length a.y.now ≤ 64) = let a = c.args in
-    values_given a.f a.x.now a.y.now a.buffer.now c.version_unknown.ensures c.if-version_unknown.false
-    c.fields_fit.ensures
-    c.if-fields_fit-y.false in
-    given
+pub returns-in_default-values_from : goal.returns-in_default-values_from
+returns-in_default-values_from c =
+    rw c.into-in_default-values_from.ensures (fields_refused _ _ _ _ c.in-Some.ensures c.in_default-values_from.ensures)
 
-pub returns-then-number-ne0 : goal.returns-then-number-ne0
-returns-then-number-ne0 c = values_refused _ _ _ _ c.version_unknown.ensures c.if-version_unknown.false c.fields_fit.ensures c.if-fields_fit-y.false c.values_from-values.ensures
-    c.refusal_of_values-number.ensures
-    c.if-number-ne0.true
-    c.refused-then-number-ne0.ensures
+pub returns-in_err-check_values : goal.returns-in_err-check_values
+returns-in_err-check_values c =
+    let p = err_from_is_err_and c.from_residual.result c.from_residual.ensures.1 in
+    rw (p.1, p.2)
+    (values_refused _ _ _ _ c.in-Some.ensures c.if-y-x.false c.if-x-gt-MOST_DOWELS.false c.in-Some-values_from.ensures _
+    c.in_err-check_values.ensures)
 
 pub returns-then-buffer-length : goal.returns-then-buffer-length
-returns-then-buffer-length c = buffer_refused _ _ _ _ c.version_unknown.ensures c.if-version_unknown.false c.fields_fit.ensures c.if-fields_fit-y.false c.values_from-values.ensures
-    c.refusal_of_values-number.ensures
-    c.if-number-ne0.false
+returns-then-buffer-length c =
+    buffer_refused _ _ _ _ c.in-Some.ensures c.if-y-x.false c.if-x-gt-MOST_DOWELS.false c.in-Some-values_from.ensures
+    c.in_ok-check_values.ensures
     c.if-buffer-length.true
-    c.refused-then-buffer-length.ensures
 
 pub put_record-requires : goal.put_record-requires
-put_record-requires c = let a = c.args in
-    put_given a.f a.x.now a.y.now a.buffer.now c.version_unknown.ensures c.if-version_unknown.false
-    c.fields_fit.ensures
-    c.if-fields_fit-y.false
-    c.values_from-values.ensures
-    c.refusal_of_values-number.ensures
-    c.if-number-ne0.false
+put_record-requires c =
+    put_given _ _ _ _ c.in-Some.ensures c.if-y-x.false c.if-x-gt-MOST_DOWELS.false c.in-Some-values_from.ensures
+    c.in_ok-check_values.ensures
     c.if-buffer-length.false
 
 pub returns : goal.returns
-returns c = written _ _ _ _ c.version_unknown.ensures c.if-version_unknown.false c.fields_fit.ensures c.if-fields_fit-y.false c.values_from-values.ensures
-    c.refusal_of_values-number.ensures
-    c.if-number-ne0.false
+returns c =
+    written _ _ _ _ c.in-Some.ensures c.if-y-x.false c.if-x-gt-MOST_DOWELS.false c.in-Some-values_from.ensures
+    c.in_ok-check_values.ensures
     c.if-buffer-length.false
     c.put_record.ensures

@@ -10,9 +10,9 @@ use Rattle.joint.proofs.Columns.{column_more, column_none}
 use Rattle.writer.proofs.check.placed.Goals as goal
 
 pub loop-i-init : goal.loop-i-init
-loop-i-init c = (search rules, sym (column_none (λ k. get_or c.args.l.now k (pos 0))))
+loop-i-init c = sym (column_none (λ k. get_or c.args.l.now k (pos 0)))
 
 pub loop-i-preserved : goal.loop-i-preserved
 loop-i-preserved c = let f : ℕ → ℤ = λ k. get_or c.args.l.now k (pos 0) in
     let b : to_z w32 (of_z w32 (f c.loop-i.i)) ≡ f c.loop-i.i = search rules in
-    (search rules, simp (c.loop-i.invariant.1, column_more f c.loop-i.i, b))
+    simp (c.loop-i.invariant, column_more f c.loop-i.i, b)

@@ -1,12 +1,8 @@
-use Prim.Native.Nat.{◌-◌, ◌≤◌}
 use lib.IntN.{pos}
-use lib.ListN.{length, get_or}
+use lib.ListN.{get_or}
 use mathlib.Core.Path.{◌≡◌}
 use Rattle.joint.specs.Layout.{column}
 use Rattle.writer.proofs.check.placed.Given as goal
 
 abbrev pub invariant-loop-i : goal.invariant-loop-i
-invariant-loop-i l = (l.i ≤ length l.l) × (l.places ≡ column (λ k. get_or l.l k (pos 0)) l.i)
-
-abbrev pub decreases-loop-i : goal.decreases-loop-i
-decreases-loop-i l = length l.l - l.i
+invariant-loop-i l = l.places ≡ column (λ k. get_or l.l k (pos 0)) l.i

@@ -10,19 +10,18 @@ use Rattle.writer.proofs.handed.fields_of.Goals as goal
 
 pub returns : goal.returns
 unfolding fields_of
-returns c = let fx_back : let l = c.args.v.loads in to_z w32 (of_z w32 l.fx) ≡ l.fx = search rules in
-    let fy_back : let l = c.args.v.loads in to_z w32 (of_z w32 l.fy) ≡ l.fy = search rules in
-    let g = c.struct_known-6-1.given in
-    let v = c.args.v in
+returns c = let fx_back : let l = c.args.v.now.loads in to_z w32 (of_z w32 l.fx) ≡ l.fx = search rules in
+    let fy_back : let l = c.args.v.now.loads in to_z w32 (of_z w32 l.fy) ≡ l.fy = search rules in
+    let v = c.args.v.now in
     simp (
       fx_back,
       fy_back,
-      c.member_to-member1.ensures,
-      c.member_to-member2.ensures,
-      unsigned v.version (omega (arith, g)),
-      unsigned v.members.planes (omega (arith, g)),
-      unsigned v.dowel.diameter (omega (arith, g)),
-      unsigned v.dowel.steel (omega (arith, g)),
-      unsigned v.loads.service_class (omega (arith, g)),
-      unsigned v.loads.duration (omega (arith, g)),
+      c.member_to.ensures,
+      c.member_to-2.ensures,
+      unsigned v.version (omega arith),
+      unsigned v.members.planes (omega arith),
+      unsigned v.dowel.diameter (omega arith),
+      unsigned v.dowel.steel (omega arith),
+      unsigned v.loads.service_class (omega arith),
+      unsigned v.loads.duration (omega arith),
     )
