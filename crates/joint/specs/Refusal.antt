@@ -222,13 +222,16 @@ zero_outline = record { x0 = pos 0; y0 = pos 0; x1 = pos 0; y1 = pos 0 }
 abbrev pub zero_member : Member
 zero_member = record { class = 0; grain = 0; thickness = 0; outline = zero_outline }
 
+abbrev pub zero_positions : Positions
+zero_positions = record { n = 0; x = replicate 64 (pos 0); y = replicate 64 (pos 0) }
+
 unfoldable pub zero_values : Values
 zero_values =
     record {
       version = 0;
       members = record { planes = 0; member1 = zero_member; member2 = zero_member };
       dowel = record { diameter = 0; steel = 0 };
-      positions = record { n = 0; x = replicate 64 (pos 0); y = replicate 64 (pos 0) };
+      positions = zero_positions;
       loads = record { service_class = 0; duration = 0; fx = pos 0; fy = pos 0 };
     }
 

@@ -23,7 +23,7 @@ use crate::report::Judgement;
 pub const MOST_DOWELS: usize = 64;
 
 // Limits in tenths of a millimetre.
-#[derive(Clone, Copy)]
+#[derive(Clone, Copy, Default)]
 pub struct Outline {
     pub x0: i32,
     pub y0: i32,
@@ -32,7 +32,7 @@ pub struct Outline {
 }
 
 // Grain 0 runs along x, 1 along y; thickness in tenths of a millimetre.
-#[derive(Clone, Copy)]
+#[derive(Clone, Copy, Default)]
 pub struct Member {
     pub class: u8,
     pub grain: u8,
@@ -41,7 +41,7 @@ pub struct Member {
 }
 
 // Kind 1. Member 1 is the side member, member 2 the other, or with two shear planes the middle one.
-#[derive(Clone, Copy)]
+#[derive(Clone, Copy, Default)]
 pub struct Members {
     pub planes: u8,
     pub member1: Member,
@@ -49,7 +49,7 @@ pub struct Members {
 }
 
 // Kind 2. Diameter in whole millimetres.
-#[derive(Clone, Copy)]
+#[derive(Clone, Copy, Default)]
 pub struct Dowel {
     pub diameter: u8,
     pub steel: u8,
@@ -63,8 +63,22 @@ pub struct Positions {
     pub y: [i32; MOST_DOWELS],
 }
 
+// By hand: of an array a derive says no more than that each place is 0.
+impl Default for Positions {
+    ghost use Rattle.joint.specs.Refusal.{zero_positions};
+    ghost is_default = { λ p. p ≡ zero_positions };
+
+    fn default() -> Positions {
+        Positions {
+            n: 0,
+            x: [0i32; MOST_DOWELS],
+            y: [0i32; MOST_DOWELS],
+        }
+    }
+}
+
 // Kind 4. The force that the dowels put into member 2, in newtons.
-#[derive(Clone, Copy)]
+#[derive(Clone, Copy, Default)]
 pub struct Loads {
     pub service_class: u8,
     pub duration: u8,
@@ -72,7 +86,7 @@ pub struct Loads {
     pub fy: i32,
 }
 
-#[derive(Clone, Copy)]
+#[derive(Clone, Copy, Default)]
 pub struct Values {
     pub version: u16,
     pub members: Members,

@@ -34,6 +34,47 @@ pub enum Rejection {
     Plan(Fault),
 }
 
+impl Rejection {
+    ghost use Rattle.joint.specs.Told.{fault_in};
+
+    pub fn number(self) -> u8
+        ensures { result ≡ (fault_in self).number }
+    {
+        match self {
+            Rejection::Record(refusal) => refusal.number(),
+            Rejection::Plan(fault) => fault.number(),
+        }
+    }
+
+    // The place: member and dowels, counted from 1; 0 where the number has none.
+    pub fn member(self) -> u8
+        ensures { result ≡ (fault_in self).member }
+    {
+        match self {
+            Rejection::Record(_) => 0,
+            Rejection::Plan(fault) => fault.member(),
+        }
+    }
+
+    pub fn first(self) -> u8
+        ensures { result ≡ (fault_in self).first }
+    {
+        match self {
+            Rejection::Record(_) => 0,
+            Rejection::Plan(fault) => fault.first(),
+        }
+    }
+
+    pub fn second(self) -> u8
+        ensures { result ≡ (fault_in self).second }
+    {
+        match self {
+            Rejection::Record(_) => 0,
+            Rejection::Plan(fault) => fault.second(),
+        }
+    }
+}
+
 impl From<Refusal> for Rejection {
     ghost use Rattle.joint.specs.declared.refusals.Rejection.TheVariants.{Record};
 

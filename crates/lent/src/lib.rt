@@ -31,13 +31,11 @@ pub fn fields_in(s: &[i32]) -> Fields
     requires { 27 ≤ length s.now }
     ensures { result ≡ fields_in s.now }
 {
-    let member1 = member_in(s, 2);
-    let member2 = member_in(s, 11);
     Fields {
         version: s[0],
         planes: s[1],
-        member1,
-        member2,
+        member1: member_in(s, 2),
+        member2: member_in(s, 11),
         diameter: s[20],
         steel: s[21],
         plate: s[22],
@@ -48,8 +46,8 @@ pub fn fields_in(s: &[i32]) -> Fields
     }
 }
 
-pub fn numbers_of(f: Fields) -> [i32; NUMBERS]
-    ensures { result ≡ numbers_of f }
+pub fn numbers_of(f: &Fields) -> [i32; NUMBERS]
+    ensures { result ≡ numbers_of f.now }
 {
     let a = f.member1;
     let b = f.member2;
@@ -84,16 +82,12 @@ pub fn numbers_of(f: Fields) -> [i32; NUMBERS]
     ]
 }
 
-// Puts all numbers of `from` at the front of `to`.
-pub fn copy(from: &[i32], to: &mut [i32])
+// Puts all numbers of `from` at the front of `to`; what `to` has past them stays.
+pub fn copy<T: Copy>(from: &[T], to: &mut [T])
     requires { length from.now ≤ length to.old }
     ensures { to.new ≡ front from.now to.old }
 {
-    let mut k = 0;
-    while k < from.len() {
-        to[k] = from[k];
-        k += 1;
-    }
+    to[..from.len()].copy_from_slice(from);
 }
 
 // Puts a refusal's number and a count into a slice.
@@ -101,6 +95,5 @@ pub fn tell(number: u8, count: usize, answer: &mut [u64])
     requires { 2 ≤ length answer.old }
     ensures { answer.new ≡ front (told number count) answer.old }
 {
-    answer[0] = number as u64;
-    answer[1] = count as u64;
+    copy(&[number as u64, count as u64], answer);
 }

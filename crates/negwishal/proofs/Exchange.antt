@@ -7,16 +7,15 @@ use mathlib.Core.Path.{◌≡◌, refl}
 use lib.Dec.{eqb}
 use lib.IntN.{ℤ}
 use lib.ListN.{length}
-use Rattle.joint.specs.declared.Reading.{Reading}
+use Rattle.joint.specs.Answer.{Reading}
 use Rattle.joint.specs.declared.Positions.{Positions}
 use Rattle.joint.specs.declared.Values.{Values}
 use Rattle.joint.specs.Layout.{values_of, positions_in}
 use Rattle.joint.specs.Refusal.{refusal_number, zero_values, reading_of}
 use Rattle.joint.proofs.Columns.{column_length}
 use Rattle.writer.specs.declared.Fields.{Fields}
-use Rattle.writer.specs.declared.Written.{Written}
 use Rattle.writer.specs.Read.{fields_of, marks_of}
-use Rattle.writer.specs.Write.{Wrote}
+use Rattle.writer.specs.Write.{Written, Wrote}
 use Rattle.lent.specs.Lent.{front}
 use Rattle.lent.specs.Lent.{told}
 use Rattle.lent.specs.Numbers.{fields_in, numbers_of}

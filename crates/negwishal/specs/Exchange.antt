@@ -1,10 +1,9 @@
 -- The entries for C that read a record's values and write a record (02, A2): what comes back, and what every lent slice holds afterwards.
 use Rattle.std.specs.Prelude.{ℕ, ◌≡◌, Bool, cond, ◌||◌, List, ltb, ℤ, length}
-use Rattle.joint.specs.declared.Reading.{Reading}
+use Rattle.joint.specs.Answer.{Reading}
 use Rattle.joint.specs.Refusal.{reading_of}
-use Rattle.writer.specs.declared.Written.{Written}
 use Rattle.writer.specs.Read.{fields_of, marks_of}
-use Rattle.writer.specs.Write.{written_of, buffer_after}
+use Rattle.writer.specs.Write.{Written, written_of, buffer_after}
 use Rattle.lent.specs.Lent.{told, code_of, put}
 use Rattle.lent.specs.Numbers.{fields_in, numbers_of}
 

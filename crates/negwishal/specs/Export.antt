@@ -1,9 +1,8 @@
 -- The entry for C that judges a record: which number stands for a verdict, in which order the fields come, what comes back, and what the
 -- slice holds afterwards.
 use Rattle.std.specs.Prelude.{ℕ, ◌≡◌, Bool, List, [], ◌∷◌, ltb, length}
-use Rattle.joint.specs.declared.report.Verdict.{Verdict}
-use Rattle.joint.specs.declared.report.Verdict.TheVariants.{Fits, Overloaded, Refused}
-use Rattle.joint.specs.declared.report.Report.{Report}
+use Rattle.joint.specs.Answer.{Verdict, Report}
+use Rattle.joint.specs.Answer.Verdict.{Fits, Overloaded, Refused}
 use Rattle.joint.specs.Claim.{Judged}
 use Rattle.joint.specs.Returned.{report_of}
 use Rattle.lent.specs.Lent.{code_of, put}

@@ -3,14 +3,13 @@
 #![tactic(auto)]
 
 ghost use Rattle.std.specs.Prelude.{◌≡◌, ◌≤◌, length};
-ghost use Rattle.writer.specs.Read.{fields_of};
-ghost use Rattle.lent.specs.Lent.{front};
-ghost use Rattle.lent.specs.Numbers.{numbers_of};
-ghost use Rattle.negwishal.specs.Export.{verdict_code, Exported};
+ghost use Rattle.joint.specs.Refusal.{zero_values};
+ghost use Rattle.joint.specs.Told.{told};
+ghost use Rattle.negwishal.specs.Export.{filled, Exported};
 ghost use Rattle.negwishal.specs.Exchange.{places, ReadOut, WroteOut};
-ghost use Rattle.negwishal.specs.Working.{Placed};
+ghost use Rattle.negwishal.specs.Working.{Placed, IsReading};
 
-use joint::report::Verdict;
+use joint::report::Judgement;
 use joint::{MOST_DOWELS, Values, judge};
 use lent::{NUMBERS, copy, fields_in, numbers_of, tell};
 use writer::handed::{fields_of, marks_of};
@@ -21,13 +20,24 @@ pub const FIELDS: usize = 8;
 // How many numbers answer a reader of values or a writer.
 const ANSWERS: usize = 2;
 
-fn verdict_code(v: Verdict) -> u64
-    ensures { result ≡ verdict_code v }
+// A report as it stands in a slice: verdict (0 refused, 1 fits, 2 overloaded), number, member, first, second, use, capacity, share.
+#[tactic(auto, unfolding(joint::specs::Returned::unanswered))]
+fn numbers_in(judgement: Judgement) -> [u64; FIELDS]
+    ensures { result ≡ filled (told judgement) }
 {
-    match v {
-        Verdict::Refused => 0,
-        Verdict::Fits => 1,
-        Verdict::Overloaded => 2,
+    match judgement {
+        Judgement::Refused(r) => [
+            0,
+            r.number() as u64,
+            r.member() as u64,
+            r.first() as u64,
+            r.second() as u64,
+            0,
+            0,
+            0,
+        ],
+        Judgement::Fits(f) => [1, 0, 0, 0, 0, f.usage, f.capacity, f.share],
+        Judgement::Overloaded(f) => [2, 0, 0, 0, 0, f.usage, f.capacity, f.share],
     }
 }
 
@@ -39,39 +49,35 @@ pub fn negwishal_judge(bytes: &[u8], out: &mut [u64]) -> u32
     if out.len() < FIELDS {
         return 1;
     }
-    let r = judge(bytes);
-    let verdict = r.verdict;
-    out[0] = verdict_code(verdict);
-    out[1] = r.number as u64;
-    out[2] = r.member as u64;
-    out[3] = r.first as u64;
-    out[4] = r.second as u64;
-    out[5] = r.usage;
-    out[6] = r.capacity;
-    out[7] = r.share;
+    copy(&numbers_in(judge(bytes)), out);
     0
 }
 
-// Puts a record's numbers but those of its dowels into a slice.
-fn hand_fields(v: Values, fields: &mut [i32])
-    requires { 27 ≤ length fields.old }
-    ensures { fields.new ≡ front (numbers_of (fields_of v)) fields.old }
+// Puts the dowels' numbers into a slice each.
+fn hand_places(v: &Values, x: &mut [i32], y: &mut [i32], marks: &mut [i32])
+    requires { (64 ≤ length x.old) × (64 ≤ length y.old) × (64 ≤ length marks.old) }
+    ensures { Placed v.now x.old y.old marks.old x.new y.new marks.new }
 {
-    let numbers = numbers_of(fields_of(v));
-    copy(&numbers, fields);
+    copy(&v.positions.x, x);
+    copy(&v.positions.y, y);
+    copy(&marks_of(v), marks);
 }
 
-// Puts the dowels' numbers into a slice each.
-fn hand_places(v: Values, x: &mut [i32], y: &mut [i32], marks: &mut [i32])
-    requires { (64 ≤ length x.old) × (64 ≤ length y.old) × (64 ≤ length marks.old) }
-    ensures { Placed v x.old y.old marks.old x.new y.new marks.new }
+#[tactic(auto, unfolding(joint::specs::Refusal::zero_values))]
+fn nothing() -> Values
+    ensures { result ≡ zero_values }
 {
-    let xs = v.positions.x;
-    let ys = v.positions.y;
-    let ms = marks_of(v);
-    copy(&xs, x);
-    copy(&ys, y);
-    copy(&ms, marks);
+    Values::default()
+}
+
+// A refusal's number and values that are all 0; or 0 and the record's values.
+fn reading_of(bytes: &[u8]) -> (u8, Values)
+    ensures { IsReading bytes.now result.0 result.1 }
+{
+    match joint::read(bytes) {
+        Ok(values) => (0, values),
+        Err(refusal) => (refusal.number(), nothing()),
+    }
 }
 
 // Reads a record's values. Where a slice is too short (27, 64, 64, 64, 2) all are left as they are and 1 comes back; else 0, and there
@@ -99,11 +105,10 @@ pub fn negwishal_read(
     if short {
         return 1;
     }
-    let reading = joint::read(bytes);
-    let values = reading.values;
-    hand_fields(values, fields);
-    hand_places(values, x, y, marks);
-    tell(reading.number, values.positions.n, answer);
+    let (number, values) = reading_of(bytes);
+    copy(&numbers_of(&fields_of(&values)), fields);
+    hand_places(&values, x, y, marks);
+    tell(number, values.positions.n, answer);
     0
 }
 
@@ -125,8 +130,9 @@ pub fn negwishal_write(
     if short {
         return 1;
     }
-    let handed = fields_in(fields);
-    let done = writer::write(handed, x, y, marks, buffer);
-    tell(done.number, done.length, answer);
+    match writer::write(&fields_in(fields), x, y, marks, buffer) {
+        Ok(length) => tell(0, length, answer),
+        Err(unwritten) => tell(unwritten.number(), 0, answer),
+    }
     0
 }

@@ -7,4 +7,4 @@ use Rattle.lent.proofs.fields_in.Goals as goal
 pub returns : goal.returns
 unfolding fields_in
 returns c = let b : OthersBack (fields_in c.args.s.now) = search rules in
-    rw (c.member_in-member1.ensures, c.member_in-member2.ensures) (others_back b)
+    rw (c.member_in.ensures, c.member_in-2.ensures) (others_back b)

@@ -6,5 +6,5 @@ use Rattle.lent.proofs.numbers_of.Goals as goal
 
 pub returns : goal.returns
 unfolding numbers_of
-returns c = let back : FieldsBack c.args.f = search rules in
+returns c = let back : FieldsBack c.args.f.now = search rules in
     numbers_back (back)

@@ -1,7 +1,5 @@
--- Eight stores from place 0 on.
-use native.Mathlib.Omega.{arith}
 use Rattle.negwishal.proofs.Laws.{too_short}
 use Rattle.negwishal.proofs.negwishal_judge.Goals as goal
 
 pub returns-then-out-lt-FIELDS : goal.returns-then-out-lt-FIELDS
-returns-then-out-lt-FIELDS c = too_short (omega arith)
+returns-then-out-lt-FIELDS c = too_short c.if-out-lt-FIELDS.true
