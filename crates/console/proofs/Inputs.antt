@@ -1,22 +1,21 @@
 -- What the program reports, from what `judge` ensures.
-use Prim.Native.Nat.{ℕ, ◌-◌, ◌≤◌}
+use Prim.Native.Nat.{ℕ, ◌≤◌}
 use mathlib.Core.Path.{◌≡◌, refl, ◌∙◌, ap, sym, subst}
 use mathlib.Core.Bool.{Bool, true, false, cond, not, ◌||◌}
 use mathlib.Core.List.{List}
-use lib.ListN.{length, take}
+use lib.ListN.{take}
 use lib.Dec.{eqb}
 use native.Mathlib.Omega.{arith}
-use native.Mathlib.Nat.{le_trans, le_of_eq, le_refl}
-use borrow.Rule.Slice.PartMut.{mid_of, mid_len}
-use Rattle.joint.specs.declared.report.Report.{Report}
+use Rattle.joint.specs.Answer.{Report}
 use Rattle.joint.specs.Returned.{unanswered, report_of}
 use Rattle.joint.proofs.Claims.{judged}
 use Rattle.spacing.specs.Verdict.{fault}
 use Rattle.line.specs.Line.{Lined}
-use Rattle.console.specs.declared.Came.{Came}
-use Rattle.console.specs.declared.Came.TheVariants.{Bytes}
+use Rattle.std.specs.Prelude.{Some, None, is_some}
+use Rattle.joint.specs.declared.report.Judgement.{Judgement}
+use Rattle.joint.specs.Told.{told}
 use Rattle.console.specs.declared.Reply.{Reply}
-use Rattle.console.specs.Input.{count_of, failed, unread, Bare, InputJudged, Said, line_when, Told, Replied, input_report, InputReported}
+use Rattle.console.specs.Input.{Came, report_in, count_of, failed, unread, Bare, InputJudged, Said, line_when, Told, Replied, input_report, InputReported}
 
 pub bare : (number : ℕ) (r : Report) → r ≡ unanswered (fault number 0 0 0) → Bare number r
 unfolding unanswered
@@ -51,47 +50,47 @@ pub both : (buffer : List ℕ) (count : ℕ) (more : Bool) (r : Report) → r �
     → InputReported buffer count more r
 both buffer count more r e = record { claim = input_says buffer count more r e; is = e }
 
--- the bytes of a read into a part of a buffer from `done` on
-pub brought : (came : Came) (n done : ℕ) (buffer : List ℕ) → came ≡ Bytes n → count_of came ≤ length (mid_of done (length buffer - done) buffer)
-    → n ≤ length buffer - done
-brought came n done buffer e h =
-    le_trans (subst (λ (x : Came). count_of x ≤ length (mid_of done (length buffer - done) buffer)) e h)
-    (le_of_eq (mid_len done (length buffer) buffer (le_refl (length buffer))))
+-- whether a read failed, as `is_none` says it
+pub failed_is : (came : Came) (b : Bool) → is_some came ≡ not b → b ≡ failed came
+failed_is (Some n) true h = cc h
+failed_is (Some n) false h = refl
+failed_is None true h = refl
+failed_is None false h = cc h
 
 -- whether a read failed, from what was asked of each
 pub unread_is : (first second : Came) (a b t : Bool) → a ≡ failed first → b ≡ failed second → (a || b) ≡ t → unread first second ≡ t
 unread_is first second a b t p q h = (λ i. sym p i || sym q i) ∙ h
 
 -- nothing judged, and no line
-pub not_told : (first second : Came) (buffer line : List ℕ) (count next : ℕ) (report : Report) → count ≡ count_of first
-    → next ≡ count_of second → unread first second ≡ true → report ≡ unanswered (fault 0 0 0 0)
+pub not_told : (first second : Came) (buffer line : List ℕ) (count next : ℕ) → count ≡ count_of first → next ≡ count_of second
+    → unread first second ≡ true
     → Told first second buffer
-    (record { first = first; second = second; count = count; more = not (eqb next 0); report = report; line = line; length = 0 })
-not_told first second buffer line count next report p q u e = record {
+    (record { first = first; second = second; count = count; more = not (eqb next 0); judgement = None; line = line; length = 0 })
+not_told first second buffer line count next p q u = record {
   asked = refl;
   asked_more = refl;
   count = p;
   more = ap (λ (n : ℕ). not (eqb n 0)) q;
-  report = subst (λ (b : Bool). Said b buffer count (not (eqb next 0)) report) (sym u) (bare 0 report e);
+  report = subst (λ (b : Bool). Said b buffer count (not (eqb next 0)) (report_in None)) (sym u) (bare 0 (report_in None) refl);
   within = omega arith;
   counted = refl;
-  line = ap (λ (b : Bool). line_when b report) (sym u);
+  line = ap (λ (b : Bool). line_when b (report_in None)) (sym u);
 }
 
--- a report with its line
-pub is_told : (first second : Came) (buffer line : List ℕ) (count next n : ℕ) (report : Report) → count ≡ count_of first
-    → next ≡ count_of second → unread first second ≡ false → report ≡ input_report buffer count (not (eqb next 0)) → Lined report line n
+-- a judgement with its line
+pub is_told : (first second : Came) (buffer line : List ℕ) (count next n : ℕ) (j : Judgement) → count ≡ count_of first
+    → next ≡ count_of second → unread first second ≡ false → told j ≡ input_report buffer count (not (eqb next 0)) → Lined (told j) line n
     → Told first second buffer
-    (record { first = first; second = second; count = count; more = not (eqb next 0); report = report; line = line; length = n })
-is_told first second buffer line count next n report p q u e made = record {
+    (record { first = first; second = second; count = count; more = not (eqb next 0); judgement = Some j; line = line; length = n })
+is_told first second buffer line count next n j p q u e made = record {
   asked = refl;
   asked_more = refl;
   count = p;
   more = ap (λ (m : ℕ). not (eqb m 0)) q;
-  report = subst (λ (b : Bool). Said b buffer count (not (eqb next 0)) report) (sym u) (input_says buffer count (not (eqb next 0)) report e);
+  report = subst (λ (b : Bool). Said b buffer count (not (eqb next 0)) (told j)) (sym u) (input_says buffer count (not (eqb next 0)) (told j) e);
   within = made.within;
   counted = made.counted;
-  line = made.line ∙ ap (λ (b : Bool). line_when b report) (sym u);
+  line = made.line ∙ ap (λ (b : Bool). line_when b (told j)) (sym u);
 }
 
 -- of what came, as the reply keeps it

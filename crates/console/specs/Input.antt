@@ -1,23 +1,24 @@
 -- Document 01, 'Printing': what the program makes of its input.
-use Rattle.std.specs.Prelude.{ℕ, ◌≤◌, ◌≡◌, Bool, true, false, cond, not, ◌||◌, List, [], length, take, eqb}
-use Rattle.joint.specs.declared.report.Report.{Report}
+use Rattle.std.specs.Prelude.{ℕ, ◌≤◌, ◌≡◌, Bool, true, false, cond, not, ◌||◌, List, [], length, take, eqb, Option, Some, None, is_none, unwrap_or}
+use Rattle.joint.specs.Answer.{Report}
 use Rattle.joint.specs.Claim.{Judged, Unanswered}
 use Rattle.joint.specs.Returned.{unanswered, report_of}
 use Rattle.spacing.specs.Verdict.{fault}
 use Rattle.line.specs.Line.{line_of}
-use Rattle.console.specs.declared.Came.{Came}
-use Rattle.console.specs.declared.Came.TheVariants.{Bytes, Failed}
+use Rattle.joint.specs.declared.report.Judgement.{Judgement}
+use Rattle.joint.specs.Told.{told}
 use Rattle.console.specs.declared.Reply.{Reply}
 
 -- The program asks twice: for up to 4,096 bytes, then for one byte more. Each time some bytes come, none at the end of the input, or
--- a read fails.
+-- a read fails, which is `None`.
+abbrev pub Came : Type 0
+Came = Option ℕ
+
 abbrev pub count_of : Came → ℕ
-count_of (Bytes n) = n
-count_of Failed = 0
+count_of came = unwrap_or came 0
 
 abbrev pub failed : Came → Bool
-failed (Bytes n) = false
-failed Failed = true
+failed came = is_none came
 
 -- a read failed: nothing is judged, and there is no line
 abbrev pub unread : Came → Came → Bool
@@ -49,16 +50,21 @@ abbrev pub line_when : Bool → Report → List ℕ
 line_when true r = []
 line_when false r = line_of r
 
+-- the report that the program makes; a number 0, no place and no figures where nothing was judged
+abbrev pub report_in : Option Judgement → Report
+report_in (Some j) = told j
+report_in None = unanswered (fault 0 0 0 0)
+
 -- what the program answers, from what came and the buffer that it stands in
 pub record Told (first second : Came) (buffer : List ℕ) (a : Reply) : Type 0 where
   pub asked : a.first ≡ first
   pub asked_more : a.second ≡ second
   pub count : a.count ≡ count_of first
   pub more : a.more ≡ more_of second
-  pub report : Said (unread first second) buffer a.count a.more a.report
+  pub report : Said (unread first second) buffer a.count a.more (report_in a.judgement)
   pub within : a.length ≤ length a.line
   pub counted : a.length ≡ length (take a.length a.line)
-  pub line : take a.length a.line ≡ line_when (unread first second) a.report
+  pub line : take a.length a.line ≡ line_when (unread first second) (report_in a.judgement)
 
 -- 'The program reads standard input up to 4,096 bytes'
 pub record Replied (buffer : List ℕ) (a : Reply) : Type 0 where

@@ -2,12 +2,11 @@
 #![tactic(auto)]
 
 ghost use Rattle.std.specs.Prelude.{◌≡◌, ◌≤◌, length};
-ghost use Rattle.spacing.specs.Verdict.{fault};
-ghost use Rattle.joint.specs.Returned.{unanswered};
-ghost use Rattle.console.specs.Input.{count_of, failed, InputReported, Told, Replied};
+ghost use Rattle.joint.specs.Told.{told as told_of};
+ghost use Rattle.console.specs.Input.{count_of, InputReported, Told, Replied};
 
-use joint::refusals::PAIRS_AGAINST_RULE;
-use joint::report::{Report, Verdict};
+use joint::refusals::{Refusal, Rejection};
+use joint::report::Judgement;
 use line::LONGEST;
 use std::io;
 use std::io::Read;
@@ -15,68 +14,27 @@ use std::io::Read;
 // The most bytes that are read: more are refusal 4, before any other test.
 pub const MOST_BYTES: usize = 4096;
 
-// What came: some bytes, none at the end of the input; or a read failed.
-#[derive(Clone, Copy)]
-pub enum Came {
-    Bytes(usize),
-    Failed,
-}
-
-// What came at first, until the buffer was full or the input ended, and what came when one byte more was asked for. Then what follows from
-// that: how many bytes are in the buffer, whether more came, the report on them, and the report's line with its length. Where a read
-// failed the report says nothing and the length is 0.
+// What came of two reads, at first, until the buffer was full or the input ended, and when one byte more was asked for: some bytes, none at
+// the end of the input, or `None` where a read failed. Then what follows from that: how many bytes are in the buffer, whether more came, what
+// they are told, and the line of that with its length. Where a read failed nothing is told and the length is 0.
 #[derive(Clone, Copy)]
 pub struct Reply {
-    pub first: Came,
-    pub second: Came,
+    pub first: Option<usize>,
+    pub second: Option<usize>,
     pub count: usize,
     pub more: bool,
-    pub report: Report,
+    pub judgement: Option<Judgement>,
     pub line: [u8; LONGEST],
     pub length: usize,
 }
 
-fn count_of(came: Came) -> usize
-    ensures { result ≡ count_of came }
-{
-    match came {
-        Came::Bytes(n) => n,
-        Came::Failed => 0,
-    }
-}
-
-fn has_failed(came: Came) -> bool
-    ensures { result ≡ failed came }
-{
-    match came {
-        Came::Bytes(_) => false,
-        Came::Failed => true,
-    }
-}
-
-// A report without figures: a refusal with no place, or number 0 where nothing was judged.
-fn without_figures(number: u8) -> Report
-    ensures { result ≡ unanswered (fault number 0 0 0) }
-{
-    Report {
-        verdict: Verdict::Refused,
-        number,
-        member: 0,
-        first: 0,
-        second: 0,
-        usage: 0,
-        capacity: 0,
-        share: 0,
-    }
-}
-
 // The program's rule: the first `count` bytes of a buffer are judged, but where more came than the program reads, that is refusal 4
 // before any other test.
-pub fn judge_input(buffer: &[u8], count: usize, more: bool) -> Report
-    ensures { InputReported buffer.now count more result }
+pub fn judge_input(buffer: &[u8], count: usize, more: bool) -> Judgement
+    ensures { InputReported buffer.now count more (told_of result) }
 {
     if more {
-        return without_figures(PAIRS_AGAINST_RULE);
+        return Judgement::Refused(Rejection::Record(Refusal::PairsAgainstRule));
     }
     if count < buffer.len() {
         return joint::judge(&buffer[..count]);
@@ -85,69 +43,59 @@ pub fn judge_input(buffer: &[u8], count: usize, more: bool) -> Report
 }
 
 // One read into a part of the buffer.
-fn read_part<R: Read>(from: &mut R, part: &mut [u8]) -> Came
+fn read_part<R: Read>(from: &mut R, part: &mut [u8]) -> Option<usize>
     ensures { count_of result ≤ length part.old }
 {
-    match from.read(part) {
-        Ok(n) => Came::Bytes(n),
-        Err(_) => Came::Failed,
-    }
+    from.read(part).ok()
 }
 
 // Reads again and again until the buffer is full, the input ends or a read fails.
-fn fill<R: Read>(from: &mut R, buffer: &mut [u8]) -> Came
+fn fill<R: Read>(from: &mut R, buffer: &mut [u8]) -> Option<usize>
     ensures { count_of result ≤ length buffer.old }
 {
     let mut done = 0;
     while done < buffer.len() {
-        let came = read_part(from, &mut buffer[done..]);
-        let Came::Bytes(n) = came else {
-            return Came::Failed;
-        };
+        let n = read_part(from, &mut buffer[done..])?;
         if n == 0 {
-            return Came::Bytes(done);
+            return Some(done);
         }
         done += n;
     }
-    Came::Bytes(done)
+    Some(done)
 }
 
 // One byte more, where no read before it failed.
-fn one_more<R: Read>(from: &mut R, first: Came) -> Came {
-    let Came::Bytes(_) = first else {
-        return Came::Failed;
-    };
-    let mut next = [0u8; 1];
-    read_part(from, &mut next)
+fn one_more<R: Read>(from: &mut R, first: Option<usize>) -> Option<usize> {
+    first?;
+    read_part(from, &mut [0u8; 1])
 }
 
 // What the program answers where `first` came, and `second` when one byte more was asked for.
-pub fn told(first: Came, second: Came, buffer: &[u8]) -> Reply
+pub fn told(first: Option<usize>, second: Option<usize>, buffer: &[u8]) -> Reply
     ensures { Told first second buffer.now result }
 {
-    let count = count_of(first);
-    let more = count_of(second) != 0;
+    let count = first.unwrap_or(0);
+    let more = second.unwrap_or(0) != 0;
     let mut line = [0u8; LONGEST];
-    if has_failed(first) | has_failed(second) {
-        let report = without_figures(0);
+    if first.is_none() | second.is_none() {
         return Reply {
             first,
             second,
             count,
             more,
-            report,
+            judgement: None,
             line,
             length: 0,
         };
     }
-    let report = judge_input(buffer, count, more);
-    let length = line::line_of(report, &mut line);
+    let judgement = judge_input(buffer, count, more);
+    let length = line::line_of(judgement, &mut line);
     Reply {
         first,
         second,
         count,
         more,
-        report,
+        judgement: Some(judgement),
         line,
         length,
     }

@@ -6,8 +6,8 @@ use lib.ListN.{length, take}
 use lib.Seq.{paste, take-paste, take-length, length-paste, length-take-le}
 use native.Mathlib.Nat.{le_refl}
 use native.Mathlib.Omega.{arith}
-use Rattle.joint.specs.declared.report.Verdict.{Verdict}
-use Rattle.joint.specs.declared.report.Report.{Report}
+use Rattle.joint.specs.Answer.{Verdict}
+use Rattle.joint.specs.Answer.{Report}
 use Rattle.io.specs.Counts.{IsPrefixLen}
 use Rattle.io.specs.Digits.{last_digits, IsDigitCount}
 use Rattle.line.specs.Line.{Added, Lined, line_of, line_for, field_of, figures_after, place_after}

@@ -1,7 +1,7 @@
 -- Lines that follow from the definition alone: joint B's, and a refusal's.
 use mathlib.Core.Path.{◌≡◌, refl}
 use mathlib.Core.List.{[], ◌∷◌}
-use Rattle.joint.specs.declared.report.Verdict.TheVariants.{Fits, Refused}
+use Rattle.joint.specs.Answer.Verdict.{Fits, Refused}
 use Rattle.line.specs.Line.{line_of, decimal_from}
 
 -- `fits 7432 7441 7347`

@@ -1,8 +1,8 @@
 -- Document 01, 'Printing': the line that the program writes, as bytes.
 use Rattle.std.specs.Prelude.{ℕ, zero, suc, ◌+◌, ◌/◌, ◌%◌, ◌≤◌, ◌≡◌, cond, List, [], ◌∷◌, ◌++◌, length, take, ltb}
-use Rattle.joint.specs.declared.report.Verdict.{Verdict}
-use Rattle.joint.specs.declared.report.Verdict.TheVariants.{Fits, Overloaded, Refused}
-use Rattle.joint.specs.declared.report.Report.{Report}
+use Rattle.joint.specs.Answer.{Verdict}
+use Rattle.joint.specs.Answer.Verdict.{Fits, Overloaded, Refused}
+use Rattle.joint.specs.Answer.{Report}
 
 -- the words of 01, in ASCII
 abbrev pub word_of : Verdict → List ℕ

@@ -1,10 +1,13 @@
-// The line that the program writes, made from a report (01, 'Printing').
+// The line that the program writes, made from a judgement (01, 'Printing').
 #![tactic(auto)]
 
 ghost use Rattle.std.specs.Prelude.{◌+◌, ◌≤◌, ◌≡◌, ◌++◌, length};
+ghost use Rattle.joint.specs.Told.{told};
+ghost use Rattle.joint.specs.declared.report.Judgement.TheVariants.{Fits, Refused};
 ghost use Rattle.line.specs.Line.{field_of, figures_after, place_after, Added, Lined};
 
-use joint::report::{Report, Verdict};
+use joint::refusals::Rejection;
+use joint::report::{Figures, Judgement};
 
 // The bytes of the longest line: `refused`, four numbers of up to 20 digits with a space before each, and the newline.
 pub const LONGEST: usize = 92;
@@ -14,12 +17,9 @@ pub fn put(src: &[u8], line: &mut [u8], at: usize) -> usize
     requires { at + length src.now ≤ length line.old }
     ensures { Added line.old line.new at result (length src.now) src.now }
 {
-    let mut i = 0;
-    while i < src.len() {
-        line[at + i] = src[i];
-        i += 1;
-    }
-    at + i
+    let end = at + src.len();
+    line[at..end].copy_from_slice(src);
+    end
 }
 
 // Puts a space and n from `at` on, and answers where they end.
@@ -43,43 +43,43 @@ fn put_two(line: &mut [u8], at: usize, m: u64, n: u64) -> usize
 }
 
 // A verdict's word with U, C and E.
-fn put_figures(word: &[u8], r: Report, line: &mut [u8]) -> usize
+fn put_figures(word: &[u8], f: Figures, line: &mut [u8]) -> usize
     requires { length word.now + 64 ≤ length line.old }
-    ensures { Added line.old line.new 0 result (length word.now + 64) (figures_after word.now r) }
+    ensures { Added line.old line.new 0 result (length word.now + 64) (figures_after word.now (told (Fits f))) }
 {
     let start = put(word, line, 0);
-    let share = put_two(line, start, r.usage, r.capacity);
-    let end = put_field(line, share, r.share);
+    let share = put_two(line, start, f.usage, f.capacity);
+    let end = put_field(line, share, f.share);
     put(b"\n", line, end)
 }
 
 // The word of a refusal with its number and place.
-fn put_place(word: &[u8], r: Report, line: &mut [u8]) -> usize
+#[tactic(auto, unfolding(joint::specs::Returned::unanswered))]
+fn put_place(word: &[u8], r: Rejection, line: &mut [u8]) -> usize
     requires { length word.now + 85 ≤ length line.old }
-    ensures { Added line.old line.new 0 result (length word.now + 85) (place_after word.now r) }
+    ensures { Added line.old line.new 0 result (length word.now + 85) (place_after word.now (told (Refused r))) }
 {
     let start = put(word, line, 0);
-    let dowels = put_two(line, start, r.number as u64, r.member as u64);
-    let last = put_two(line, dowels, r.first as u64, r.second as u64);
+    let dowels = put_two(line, start, r.number() as u64, r.member() as u64);
+    let last = put_two(line, dowels, r.first() as u64, r.second() as u64);
     put(b"\n", line, last)
 }
 
-// The line of a report, at the start of a slice that is long enough.
-fn put_line(r: Report, line: &mut [u8]) -> usize
+// The line of a judgement, at the start of a slice that is long enough.
+fn put_line(j: Judgement, line: &mut [u8]) -> usize
     requires { length line.old ≡ 92 }
-    ensures { Lined r line.new result }
+    ensures { Lined (told j) line.new result }
 {
-    let verdict = r.verdict;
-    match verdict {
-        Verdict::Fits => put_figures(b"fits", r, line),
-        Verdict::Overloaded => put_figures(b"overloaded", r, line),
-        Verdict::Refused => put_place(b"refused", r, line),
+    match j {
+        Judgement::Fits(f) => put_figures(b"fits", f, line),
+        Judgement::Overloaded(f) => put_figures(b"overloaded", f, line),
+        Judgement::Refused(r) => put_place(b"refused", r, line),
     }
 }
 
-// The line of a report, at the start of an array that holds every line; answers its length.
-pub fn line_of(r: Report, line: &mut [u8; LONGEST]) -> usize
-    ensures { Lined r line.new result }
+// The line of a judgement, at the start of an array that holds every line; answers its length.
+pub fn line_of(j: Judgement, line: &mut [u8; LONGEST]) -> usize
+    ensures { Lined (told j) line.new result }
 {
-    put_line(r, line)
+    put_line(j, line)
 }
