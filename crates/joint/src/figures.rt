@@ -47,10 +47,9 @@ fn plane_member(diameter: u8, m: Member, along: u64, total: u64) -> plane::Timbe
     ensures { result ≡ plane_member diameter m along total }
 {
     let wood = codes::wood_of(m.class);
-    let kind = wood.kind;
     plane::Timber {
         density: wood.density,
-        k90: codes::k90(kind, diameter),
+        k90: wood.kind.k90(diameter),
         along: along * along,
         total,
         thickness: m.thickness as u64,
@@ -67,7 +66,7 @@ fn capacity_of(members: Members, dowel: Dowel, total: u64, along1: u64, along2: 
     let member2 = members.member2;
     let timber1 = plane_member(dowel.diameter, member1, along1, total);
     let timber2 = plane_member(dowel.diameter, member2, along2, total);
-    let steel = codes::value_of(codes::steel_strength(dowel.steel));
+    let steel = codes::steel_strength(dowel.steel).unwrap_or(0);
     capacity::capacity_thousandths(plane::Plane {
         member1: timber1,
         member2: timber2,
@@ -102,7 +101,7 @@ fn demand_of(members: Members, dowel: Dowel, loads: Loads, n: usize, taken: Both
         member1,
         member2,
         planes2: twice_planes(n, members.planes),
-        kmod: codes::value_of(codes::kmod_hundredths(loads.service_class, loads.duration)),
+        kmod: codes::kmod_hundredths(loads.service_class, loads.duration).unwrap_or(0),
         capacity,
     }
 }
