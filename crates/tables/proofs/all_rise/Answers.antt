@@ -1,19 +1,19 @@
-use mathlib.Core.Path.{◌∙◌, sym}
-use native.Mathlib.Omega.{arith}
-use Rattle.tables.proofs.Entries.{rise_end, rise_stop, rise_on}
+use mathlib.Core.Path.{◌∙◌, sym, ap}
+use Rattle.tables.specs.Table.{rise}
+use Rattle.tables.proofs.Entries.{rise_stop, rise_on}
 use Rattle.tables.proofs.all_rise.Goals as goal
 
-pub returns-then-entry_within-code : goal.returns-then-entry_within-code
-returns-then-entry_within-code c = let b = c.args.table.now in
-    sym
-    (c.loop-at.invariant.1
-    ∙ rise_stop b c.loop-at.at (omega arith) c.loop-at.before c.entry_at-e.ensures c.entry_within.ensures c.if-entry_within-code.true)
+pub returns-then-not-is_within-before : goal.returns-then-not-is_within-before
+returns-then-not-is_within-before c = sym
+    (c.loop-e.invariant.2 ∙ ap (rise c.loop-e.before) c.in-Some.ensures.steps ∙ rise_stop _ _ _ c.is_within.ensures c.if-not-is_within-before.true)
 
-pub loop-at-preserved : goal.loop-at-preserved
-loop-at-preserved c = let b = c.args.table.now in (
-  omega arith,
-  c.loop-at.invariant.1 ∙ rise_on b c.loop-at.at (omega arith) c.loop-at.before c.entry_at-e.ensures c.entry_within.ensures c.if-entry_within-code.false,
+pub loop-e-preserved : goal.loop-e-preserved
+loop-e-preserved c = (
+  tt,
+  tt,
+  c.loop-e.invariant.2 ∙ ap (rise c.loop-e.before) c.in-Some.ensures.steps ∙ rise_on _ _ _ c.is_within.ensures c.if-not-is_within-before.false,
 )
 
 pub returns : goal.returns
-returns c = sym (c.loop-at.invariant.1 ∙ rise_end c.args.table.now c.loop-at.at c.loop-at.before (omega arith))
+unfolding rise
+returns c = sym (c.loop-e.invariant.2 ∙ ap (rise c.loop-e.before) c.in-None.ensures.steps.0)
