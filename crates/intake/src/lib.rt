@@ -66,6 +66,13 @@ pub fn open(rt: &HostRuntime, path: &str) -> Option<File> {
     }
 }
 
+// One read; where it fails, nothing was read.
+fn read_some<R: Read>(from: &mut R, part: &mut [u8]) -> usize
+    ensures { result ≤ length part.old }
+{
+    from.read(part).unwrap_or(0)
+}
+
 // Reads until the buffer is full, the input ends or a read fails, and answers how many bytes stand at the buffer's start. std's `read_exact`
 // and `read_to_end` would not say how many those are where a read fails.
 pub fn read_full<R: Read>(from: &mut R, buffer: &mut [u8]) -> usize
@@ -73,7 +80,7 @@ pub fn read_full<R: Read>(from: &mut R, buffer: &mut [u8]) -> usize
 {
     let mut done = 0;
     while done < buffer.len() {
-        let n = from.read(&mut buffer[done..]).unwrap_or(0);
+        let n = read_some(from, &mut buffer[done..]);
         if n == 0 {
             return done;
         }
