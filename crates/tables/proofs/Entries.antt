@@ -1,17 +1,17 @@
--- Laws of a table's entries: the next one of a stretch of bytes, and what a loop over them finds.
+-- Laws of a table's entries: the next one of a stretch of bytes, and what is found at a code.
 use Prim.Native.Nat.{ℕ, ◌+◌, ◌*◌, ◌-◌, ◌≤◌, ◌<◌}
 use native.Mathlib.Omega.{arith}
 use mathlib.Core.Path.{◌≡◌, refl, sym, ap, ◌∙◌}
-use mathlib.Core.Bool.{Bool, true, false, ◌&&◌}
+use mathlib.Core.Bool.{Bool, true, false}
 use mathlib.Core.List.{List, [], ◌∷◌, map}
-use lib.Dec.{eqb, ltb}
+use lib.Dec.{eqb}
 use lib.ListN.{length, get_or, take, drop}
 use Rattle.std.specs.Prelude.{Option, Some, None, find, option_map, option_and_then, MatchOption, IsSomeAnd}
 use Rattle.std.proofs.lemmas.List.{take_rest}
 use Rattle.codes.specs.declared.Wood.{Wood}
 use Rattle.codes.specs.Tables.{lookup}
 use Rattle.tables.specs.declared.entry.Entry.{Entry}
-use Rattle.tables.specs.Table.{entry_at, entries_in, entry_within, rise, class_of, line_of}
+use Rattle.tables.specs.Table.{entry_at, entries_in, class_of, line_of}
 
 -- fewer than four bytes are no entry
 pub few : (s : List ℕ) → length s < 4 → entries_in s ≡ []
@@ -51,13 +51,3 @@ pub found : (code : ℕ) (es : List Entry) (r : Option Entry) (w : Option Wood) 
 found code es None w q m = m ∙ ap (option_and_then class_of) q ∙ sym (looked_up code es)
 found code es (Some e) (Some x) q m = m ∙ ap (option_and_then class_of) q ∙ sym (looked_up code es)
 found code es (Some e) None q m = absurd m
-
--- ---- codes that rise
-module _ (before : ℕ) (e : Entry) (es : List Entry) {w : Bool} (q : w ≡ entry_within e) where
-  pub rise_stop : (w && ltb before e.code) ≡ false → rise before (e ∷ es) ≡ false
-  unfolding rise
-  rise_stop h = simp (← q, h)
-
-  pub rise_on : (w && ltb before e.code) ≡ true → rise before (e ∷ es) ≡ rise e.code es
-  unfolding rise
-  rise_on h = simp (← q, h)

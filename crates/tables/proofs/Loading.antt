@@ -1,16 +1,11 @@
--- What loading finds, test by test; and what is known of a table that loads.
-use Prim.Native.Nat.{ℕ, ◌%◌, ◌≤◌, ◌<◌}
-use mathlib.Core.Path.{◌≡◌, refl, sym, ◌∙◌}
-use mathlib.Core.Bool.{Bool, true, false, cond, not, and-eq-true_iff}
+-- What is known of a table that loads.
+use Prim.Native.Nat.{ℕ}
+use mathlib.Core.Path.{◌≡◌, refl}
+use mathlib.Core.Bool.{Bool, true, false, cond, and-eq-true_iff}
 use mathlib.Core.List.{List, [], ◌∷◌, map}
 use mathlib.Core.Logic.{◌⊎◌, inl, inr}
 use native.Mathlib.Omega.{arith}
-use borrow.Author.Tests.{lt-ltb, le-ltb, eq-eqb, ne_eqb, not-true, not-false}
 use lib.Dec.{eqb}
-use lib.ListN.{length, replicate}
-use Rattle.numbers.specs.Numbers.{u16_at}
-use Rattle.chain.specs.Chain.{Read}
-use Rattle.chain.specs.declared.Width.TheVariants.{Two}
 use Rattle.codes.specs.Tables.{softwood, hardwood}
 use Rattle.tables.specs.Classes.{Sound}
 use Rattle.codes.proofs.Woods.{line_test, lines_pass}
@@ -21,49 +16,6 @@ use Rattle.tables.specs.declared.Source.TheVariants.{Printed, Own}
 use Rattle.tables.specs.Tests.{first_holding}
 use Rattle.tables.specs.Table.{entries_of, refusal14, entry_within, rise, refusal15, line_of, own_table, table_of, table_number, Loads}
 
--- ---- 14
-module _ (b : List ℕ) where
-  pub too_short : length b < 6 → false ≡ not (refusal14 b)
-  unfolding refusal14
-  too_short h = simp (lt-ltb (length b) 6 h)
-
-  module _ (l : 6 ≤ length b) {n : ℕ} (e : n ≡ u16_at b 0) where
-    pub other_count : (n ≡ 1 → ⊥) → false ≡ not (refusal14 b)
-    unfolding refusal14
-    other_count h = simp (le-ltb (length b) 6 l, ← e, ne_eqb n 1 h)
-
-    module _ (h : n ≡ 1) {bounds : List ℕ} {q : Bool} (r : Read Two b 2 6 1 (replicate 2 0) bounds q) where
-      pub other_pair : q ≡ false → false ≡ not (refusal14 b)
-      unfolding refusal14
-      other_pair g = simp (le-ltb (length b) 6 l, ← e, eq-eqb n 1 h, ← r.whole, g)
-
-      pub pair_right : q ≡ true → {k : ℕ} → k ≡ u16_at b 4 → eqb (k % 4) 0 ≡ not (refusal14 b)
-      unfolding refusal14
-      pair_right g {k} i = go (eqb (k % 4) 0) refl
-        where
-          go : (t : Bool) → eqb (k % 4) 0 ≡ t → eqb (k % 4) 0 ≡ not (refusal14 b)
-          go true s = simp (le-ltb (length b) 6 l, ← e, eq-eqb n 1 h, ← r.whole, g, ← i, s)
-          go false s = simp (le-ltb (length b) 6 l, ← e, eq-eqb n 1 h, ← r.whole, g, ← i, s)
-
-  -- ---- 14, then 15
-  module _ {q : Bool} (e : q ≡ not (refusal14 b)) where
-    pub by_14 : q ≡ false → 14 ≡ table_number (own_table b)
-    unfolding first_holding
-    by_14 h = simp (not-false (refusal14 b) (sym e ∙ h))
-
-    module _ (h : q ≡ true) {r : Bool} (f : r ≡ rise 0 (entries_of b)) where
-      no_14 : refusal14 b ≡ false
-      no_14 = not-true (refusal14 b) (sym e ∙ h)
-
-      pub by_15 : r ≡ false → 15 ≡ table_number (own_table b)
-      unfolding first_holding refusal15
-      by_15 g = simp (no_14, ← f, g)
-
-      pub loaded : r ≡ true → 0 ≡ table_number (own_table b)
-      unfolding first_holding refusal15
-      loaded g = simp (no_14, ← f, g)
-
--- ---- what is known of a table that loads
 entry_line : (e : Entry) → entry_within e ≡ true → line_test (line_of e).code (line_of e).entry ≡ true
 unfolding entry_within line_test
 entry_line e h = go (eqb e.kind 0)

@@ -41,6 +41,7 @@ impl Refusal {
 }
 
 // Whether each entry is within its limits, with a code above the one before.
+#[tactic(auto, unfolding(crate::specs::Table::rise))]
 fn all_rise(table: &[u8]) -> bool
     ensures { result ≡ rise 0 (entries_of table.now) }
 {
@@ -55,6 +56,7 @@ fn all_rise(table: &[u8]) -> bool
 }
 
 // Whether one pair lays whole entries up to the table's end.
+#[tactic(auto, unfolding(crate::specs::Table::refusal14))]
 fn is_laid(table: &[u8]) -> bool
     ensures { result ≡ not (refusal14 table.now) }
 {
@@ -74,6 +76,7 @@ fn is_laid(table: &[u8]) -> bool
 }
 
 // Loads a firm's own table, or turns it away.
+#[tactic(auto, unfolding(crate::specs::Tests::first_holding, crate::specs::Table::refusal15))]
 pub fn load(table: &[u8]) -> Result<(), Refusal>
     ensures { told result ≡ table_number (own_table table.now) }
 {
@@ -102,6 +105,7 @@ pub enum Source<'a> {
 
 impl Source<'_> {
     // Why the table is turned away, if it is.
+    #[tactic(auto, unfolding(crate::specs::Tests::first_holding))]
     pub fn load(self) -> Result<(), Refusal>
         ensures { told result ≡ table_number (table_of self.entry) }
     {
@@ -112,6 +116,7 @@ impl Source<'_> {
     }
 
     // What the table has at a code, whether it loads or not: `load` says that.
+    #[tactic(auto, unfolding(codes::specs::Tables::class_of, crate::specs::Classes::class_in))]
     pub fn class_of(self, code: u8) -> Option<Wood>
         ensures { result ≡ class_in (table_of self.entry).classes code }
     {
