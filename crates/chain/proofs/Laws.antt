@@ -1,63 +1,47 @@
 -- Laws of chains: one step of the loop, and what a right chain says of its parts.
 use Prim.Native.Nat.{ℕ, zero, suc, ◌+◌, ◌*◌, ◌≤◌, ◌<◌}
-use native.Mathlib.Nat.{mul-le-mul_right, le_refl, pos_of_ne-zero}
+use native.Mathlib.Nat.{le_refl, pos_of_ne-zero}
 use native.Mathlib.Decide.{le_ind}
 use native.Mathlib.Numerals.{add-one}
 use native.Mathlib.Omega.{arith}
-use mathlib.Core.Bool.{Bool, true, false, ◌&&◌, and-true, and-false, and-eq-true_iff}
-use mathlib.Core.Path.{◌≡◌, refl, ap, ◌∙◌}
+use mathlib.Core.Bool.{Bool, true, ◌&&◌, and-eq-true_iff}
+use mathlib.Core.Path.{◌≡◌, refl, ◌∙◌}
 use mathlib.Core.List.{List}
 use lib.ListN.{length, get_or, set, length-set}
 use lib.Seq.{get_or-set_same, get_or-set_other}
-use borrow.Author.Tests.{eqb-true, eqb-false, eq-eqb, ne_eqb, not-true}
+use lib.Dec.{eqb}
+use borrow.Author.Tests.{eqb-true, eqb-false, not-true}
 use Rattle.chain.specs.declared.Width.{Width}
-use Rattle.chain.specs.Chain.{bytes_of, pair_bytes, number_at, offset_of, length_of, bound, continues, all_follow, chained, filled, Read}
-
--- pair k of n that lie within l bytes lies within them
-pub room : (at k n p l : ℕ) → k < n → at + n * p ≤ l → at + k * p + p ≤ l
-room at k n p l h g = omega (arith, mul-le-mul_right p h)
+use Rattle.chain.specs.Chain.{bytes_of, number_at, offset_of, length_of, bound, continues, all_follow, chained, filled, Read}
 
 filled_length : (f : ℕ → ℕ) (n : ℕ) (l : List ℕ) → length (filled f n l) ≡ length l
 unfolding filled
 filled_length f zero l = refl
 filled_length f (suc n) l = length-set (filled f n l) n (f n) ∙ filled_length f n l
 
--- k pairs are passed, the next part has to start at `start`, and the next pair stands at `here`
-pub record Upto (w : Width) (s : List ℕ) (at first : ℕ) (before : List ℕ) (k : ℕ) (after : List ℕ) (whole : Bool) (start here : ℕ) : Type 0 where
-  pub place : here ≡ at + k * pair_bytes w
+-- k pairs are passed, and the next part has to start at `start`
+pub record Upto (w : Width) (s : List ℕ) (at first : ℕ) (before : List ℕ) (k : ℕ) (after : List ℕ) (whole : Bool) (start : ℕ) : Type 0 where
   pub next : start ≡ bound w s at first k
   pub right : whole ≡ all_follow w s at first k
   pub bounds : after ≡ filled (bound w s at first) k before
 
 module _ {w : Width} {s : List ℕ} {at first : ℕ} {before : List ℕ} where
-  pub none : Upto w s at first before 0 before true first at
+  pub none : Upto w s at first before 0 before true first
   unfolding bound all_follow filled
-  none = record { place = omega arith; next = refl; right = refl; bounds = refl }
+  none = record { next = refl; right = refl; bounds = refl }
 
-  module _ {k : ℕ} {after : List ℕ} {whole : Bool} {start here : ℕ} (h : Upto w s at first before k after whole start here) where
-    pub long : length after ≡ length before
-    long = ap length h.bounds ∙ filled_length (bound w s at first) k before
-
-    -- a pair more: its numbers and its test, and what is put into the list and counted on
-    pub more : {size offset bytes put next there : ℕ} {right : Bool} → size ≡ bytes_of w → offset ≡ number_at w s here
-        → bytes ≡ number_at w s (here + size) → right ≡ continues offset bytes start → put ≡ start → next ≡ offset + bytes
-        → there ≡ here + 2 * size → Upto w s at first before (k + 1) (set after k put) (whole && right) next there
+  module _ {k : ℕ} {after : List ℕ} {whole : Bool} {start : ℕ} (h : Upto w s at first before k after whole start) where
+    -- a pair more: its numbers and its test, and what is put into the list
+    pub more : {size offset bytes : ℕ} {right : Bool} → size ≡ bytes_of w → offset ≡ number_at w s (at + k * (2 * size))
+        → bytes ≡ number_at w s (at + k * (2 * size) + size) → right ≡ continues offset bytes start
+        → Upto w s at first before (k + 1) (set after k start) (whole && right) (offset + bytes)
     unfolding bound all_follow filled
-    more e f g r p n t = record {
-      place = omega (arith, h.place);
-      next = rw add-one (cc);
-      right = rw add-one (cc);
-      bounds = rw add-one (cc);
-    }
+    more e f g r = record { next = rw add-one (cc); right = rw add-one (cc); bounds = rw add-one (cc) }
 
-    -- the end is met, or not
-    pub all : {n put : ℕ} → k ≡ n → put ≡ start → start ≡ length s → Read w s at first n before (set after n put) whole
+    -- after the last pair: whether the end is met
+    pub all : {n : ℕ} → k ≡ n → Read w s at first n before (set after n start) (whole && eqb start (length s))
     unfolding chained filled
-    all e p q = let t = eq-eqb start (length s) q in let a = and-true whole in record { whole = cc; bounds = cc }
-
-    pub other_end : {n put : ℕ} → k ≡ n → put ≡ start → (start ≡ length s → ⊥) → Read w s at first n before (set after n put) false
-    unfolding chained filled
-    other_end e p q = let t = ne_eqb start (length s) q in let a = and-false whole in record { whole = cc; bounds = cc }
+    all e = record { whole = cc; bounds = cc }
 
 -- ---- the numbers that were lent
 pub filled_at : (f : ℕ → ℕ) (l : List ℕ) (k n : ℕ) → k < n → k < length l → get_or (filled f n l) k 0 ≡ f k

@@ -13,22 +13,25 @@ pub enum Width {
     Four,
 }
 
-fn bytes_of(width: Width) -> usize
-    ensures { result ≡ bytes_of width }
-{
-    match width {
-        Width::Two => 2,
-        Width::Four => 4,
+impl Width {
+    fn bytes(self) -> usize
+        ensures { result ≡ bytes_of self }
+    {
+        match self {
+            Width::Two => 2,
+            Width::Four => 4,
+        }
     }
-}
 
-fn number_at(s: &[u8], width: Width, i: usize) -> u32
-    requires { i + bytes_of width ≤ length s.now }
-    ensures { result ≡ number_at width s.now i }
-{
-    match width {
-        Width::Two => u16_at(s, i) as u32,
-        Width::Four => u32_at(s, i),
+    #[tactic(auto, unfolding(crate::specs::Chain::number_at))]
+    fn number_at(self, s: &[u8], i: usize) -> u32
+        requires { i + bytes_of self ≤ length s.now }
+        ensures { result ≡ number_at self s.now i }
+    {
+        match self {
+            Width::Two => u16_at(s, i).into(),
+            Width::Four => u32_at(s, i),
+        }
     }
 }
 
@@ -36,17 +39,12 @@ fn number_at(s: &[u8], width: Width, i: usize) -> u32
 fn continues(offset: usize, bytes: usize, start: usize) -> bool
     ensures { result ≡ continues offset bytes start }
 {
-    if offset != start {
-        return false;
-    }
-    if bytes == 0 {
-        return false;
-    }
-    true
+    (offset == start) & (bytes != 0)
 }
 
 // Whether `count` pairs, from byte `at` on, lay parts end to end from byte `first` to the end of `s`. Puts into `bounds` where each part
 // starts, and after that where the last one ends, by the pairs as they stand.
+// The list is lent and the answer a bool, since the bounds are promised of a broken chain too, and how many there are is the caller's.
 pub fn read(
     s: &[u8],
     width: Width,
@@ -58,23 +56,17 @@ pub fn read(
     requires { (at + count * pair_bytes width ≤ length s.now) × (count < length bounds.old) }
     ensures { Read width s.now at first count bounds.old bounds.new result }
 {
-    let size = bytes_of(width);
+    let size = width.bytes();
     let mut whole = true;
     let mut start = first;
-    let mut here = at;
-    let mut k = 0;
-    while k < count {
-        let offset = number_at(s, width, here) as usize;
-        let bytes = number_at(s, width, here + size) as usize;
+    for k in 0..count {
+        let here = at + k * (2 * size);
+        let offset = width.number_at(s, here) as usize;
+        let bytes = width.number_at(s, here + size) as usize;
         whole = whole & continues(offset, bytes, start);
         bounds[k] = start;
         start = offset + bytes;
-        here += 2 * size;
-        k += 1;
     }
     bounds[count] = start;
-    if start != s.len() {
-        return false;
-    }
-    whole
+    whole & (start == s.len())
 }

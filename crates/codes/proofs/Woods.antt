@@ -7,72 +7,66 @@ use mathlib.Core.List.{List, [], ◌∷◌}
 use native.Mathlib.Omega.{arith}
 use borrow.Author.Tests.{leb-true, eqb-true}
 use lib.Dec.{leb, eqb}
+use Rattle.std.specs.Prelude.{Option, Some, None}
 use Rattle.codes.specs.declared.Kind.{Kind}
 use Rattle.codes.specs.declared.Kind.TheVariants.{Softwood, Hardwood}
-use Rattle.codes.specs.declared.Class.{Class}
-use Rattle.codes.specs.declared.Class.TheVariants.{Known, Unknown}
+use Rattle.codes.specs.declared.Wood.{Wood}
 use Rattle.codes.specs.Tables.{Line, lookup, printed_classes, class_of, is_known, is_class, wood_in, wood_of, k90_of}
 
--- every line of a table passes a test
-all_pass : {A : Type 0} → (A → Bool) → List (Line A) → Bool
-all_pass test [] = true
-all_pass test (l ∷ ls) = test l.entry && all_pass test ls
+-- ---- a line's test: its code and its density
+unfoldable pub line_test : ℕ → Option Wood → Bool
+line_test code (Some w) = leb code 255 && (leb 290 w.density && leb w.density 1100)
+line_test code None = true
 
--- a test that every line of a table passes is passed by what the table has at any code, and by what stands for a lack
-lookup_passes :
-    {A : Type 0} (test : A → Bool) (none : A) (ls : List (Line A)) → test none ≡ true → all_pass test ls ≡ true →
-    (c : ℕ) → test (lookup none ls c) ≡ true
-unfolding all_pass
-lookup_passes test none [] n h c = n
-lookup_passes test none (l ∷ ls) n h c =
-    let parts = (and-eq-true_iff (test l.entry) (all_pass test ls)).0 h in
-    go (eqb c l.code) parts.0 (lookup_passes test none ls n parts.1 c)
-  where
-    go : (b : Bool) → test l.entry ≡ true → test (lookup none ls c) ≡ true → test (cond b l.entry (lookup none ls c)) ≡ true
-    go true here later = here
-    go false here later = later
+unfoldable pub lines_pass : List (Line (Option Wood)) → Bool
+lines_pass [] = true
+lines_pass (l ∷ ls) = line_test l.code l.entry && lines_pass ls
 
--- a code that a table has is one of its lines'
-codes_pass : {A : Type 0} → (ℕ → Bool) → List (Line A) → Bool
-codes_pass test [] = true
-codes_pass test (l ∷ ls) = test l.code && codes_pass test ls
-
-code_passes : (test : ℕ → Bool) (ls : List (Line Class)) → codes_pass test ls ≡ true → (c : ℕ) → is_known (lookup Unknown ls c) ≡ true → test c ≡ true
-unfolding codes_pass
-code_passes test [] h c k = absurd (false≢true k)
-code_passes test (l ∷ ls) h c k =
-    let parts = (and-eq-true_iff (test l.code) (codes_pass test ls)).0 h in
-    go (eqb c l.code) refl parts.0 (code_passes test ls parts.1 c) k
+-- a test that every line passes is passed at every code that the table has
+found_passes : (ls : List (Line (Option Wood))) → lines_pass ls ≡ true → (c : ℕ) → is_known (lookup None ls c) ≡ true
+    → line_test c (lookup None ls c) ≡ true
+unfolding lines_pass
+found_passes [] h c k = absurd (false≢true k)
+found_passes (l ∷ ls) h c k =
+    let parts = (and-eq-true_iff (line_test l.code l.entry) (lines_pass ls)).0 h in
+    go (eqb c l.code) refl parts.0 (found_passes ls parts.1 c) k
   where
     go :
-        (b : Bool) → eqb c l.code ≡ b → test l.code ≡ true → (is_known (lookup Unknown ls c) ≡ true → test c ≡ true) →
-        is_known (cond b l.entry (lookup Unknown ls c)) ≡ true → test c ≡ true
-    go true e here later k = ap test (eqb-true c l.code e) ∙ here
+        (b : Bool) → eqb c l.code ≡ b → line_test l.code l.entry ≡ true
+        → (is_known (lookup None ls c) ≡ true → line_test c (lookup None ls c) ≡ true)
+        → is_known (cond b l.entry (lookup None ls c)) ≡ true → line_test c (cond b l.entry (lookup None ls c)) ≡ true
+    go true e here later k = ap (λ (n : ℕ). line_test n l.entry) (eqb-true c l.code e) ∙ here
     go false e here later k = later k
 
+pub record Passed (code : ℕ) (c : Option Wood) : Type 0 where
+  pub byte : code ≤ 255
+  pub low : 290 ≤ (wood_in c).density
+  pub high : (wood_in c).density ≤ 1100
+
+passed : (code : ℕ) (c : Option Wood) → is_known c ≡ true → line_test code c ≡ true → Passed code c
+unfolding line_test
+passed code (Some w) k t =
+    let p = simp and-eq-true_iff at t in
+    record { byte = leb-true _ _ p.0; low = leb-true _ _ p.1.0; high = leb-true _ _ p.1.1 }
+passed code None k t = absurd (false≢true k)
+
+pub passed_at : (ls : List (Line (Option Wood))) → lines_pass ls ≡ true → (code : ℕ) → is_known (lookup None ls code) ≡ true → Passed code (lookup None ls code)
+passed_at ls h code k = passed code _ k (found_passes ls h code k)
+
+pub printed_pass : lines_pass printed_classes ≡ true
+unfolding printed_classes lines_pass line_test
+printed_pass = refl
+
+-- ---- the printed table
 -- a class fits its byte
 pub class_byte : (code : ℕ) → is_class code ≡ true → code ≤ 255
-unfolding class_of printed_classes codes_pass
-class_byte code k = leb-true code 255 (code_passes (λ c. leb c 255) printed_classes refl code k)
-
-density_test : Class → Bool
-density_test (Known w) = leb 290 w.density && leb w.density 1100
-density_test Unknown = true
-
-density_tested : (code : ℕ) → density_test (class_of code) ≡ true
-unfolding class_of printed_classes density_test all_pass
-density_tested = lookup_passes density_test Unknown printed_classes refl refl
+unfolding class_of
+class_byte code k = (passed_at printed_classes printed_pass code k).byte
 
 pub density_within :
     (code : ℕ) → is_class code ≡ true → (290 ≤ (wood_of code).density) × ((wood_of code).density ≤ 1100)
-unfolding density_test
-density_within code known = go (class_of code) known (density_tested code)
-  where
-    go : (c : Class) → is_known c ≡ true → density_test c ≡ true → (290 ≤ (wood_in c).density) × ((wood_in c).density ≤ 1100)
-    go (Known w) k t =
-        let parts = (and-eq-true_iff (leb 290 w.density) (leb w.density 1100)).0 t in
-        (leb-true 290 w.density parts.0, leb-true w.density 1100 parts.1)
-    go Unknown k t = absurd (false≢true k)
+unfolding class_of
+density_within code k = let p = passed_at printed_classes printed_pass code k in (p.low, p.high)
 
 pub k90_low : (k : Kind) (d : ℕ) → 6 ≤ d → 990 ≤ k90_of k d
 k90_low Softwood d h = omega arith

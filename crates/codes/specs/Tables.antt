@@ -1,13 +1,8 @@
--- The tables of 01 and of 02's A1: what a code stands for, and which versions there are. A class that the table lacks is `Unknown`, another
--- code `Unlisted`.
-use Rattle.std.specs.Prelude.{ℕ, ◌+◌, ◌*◌, Bool, true, false, cond, List, [], ◌∷◌, eqb}
+-- The tables of 01 and of 02's A1: what a code stands for, and which versions there are. A code that a table lacks stands for `None`.
+use Rattle.std.specs.Prelude.{ℕ, ◌+◌, ◌*◌, Bool, true, false, cond, List, [], ◌∷◌, eqb, Option, Some, None, unwrap_or}
 use Rattle.codes.specs.declared.Kind.{Kind}
 use Rattle.codes.specs.declared.Kind.TheVariants.{Softwood, Hardwood}
 use Rattle.codes.specs.declared.Wood.{Wood}
-use Rattle.codes.specs.declared.Class.{Class}
-use Rattle.codes.specs.declared.Class.TheVariants.{Known, Unknown}
-use Rattle.codes.specs.declared.Listed.{Listed}
-use Rattle.codes.specs.declared.Listed.TheVariants.{Value, Unlisted}
 
 -- 01, '2 version not 1': the versions of records that are known
 abbrev pub is_version : ℕ → Bool
@@ -27,15 +22,15 @@ lookup none [] c = none
 lookup none (l ∷ ls) c = cond (eqb c l.code) l.entry (lookup none ls c)
 
 -- the wood of a class: its kind, and its density in kg/m³
-abbrev pub softwood : ℕ → Class
-softwood density = Known (record { kind = Softwood; density = density })
+abbrev pub softwood : ℕ → Option Wood
+softwood density = Some (record { kind = Softwood; density = density })
 
-abbrev pub hardwood : ℕ → Class
-hardwood density = Known (record { kind = Hardwood; density = density })
+abbrev pub hardwood : ℕ → Option Wood
+hardwood density = Some (record { kind = Hardwood; density = density })
 
 -- the printed table of classes, density in kg/m³; 01, 'Strength of a shear plane': 1 C24, 2 C30, 3 GL24h, 4 GL24c, 5 GL28h, 6 GL28c,
 -- 7 GL32h, 8 GL32c; 02, A1, as in EN 338:2009: 9 D30, 10 D40, 11 D70
-unfoldable pub printed_classes : List (Line Class)
+unfoldable pub printed_classes : List (Line (Option Wood))
 printed_classes =
     line 1 (softwood 350)
     ∷ line 2 (softwood 380)
@@ -51,21 +46,21 @@ printed_classes =
     ∷ []
 
 -- what the table has at a code
-unfoldable pub class_of : ℕ → Class
-class_of = lookup Unknown printed_classes
+unfoldable pub class_of : ℕ → Option Wood
+class_of = lookup None printed_classes
 
 -- whether it has the code
-abbrev pub is_known : Class → Bool
-is_known (Known w) = true
-is_known Unknown = false
+abbrev pub is_known : Option Wood → Bool
+is_known (Some w) = true
+is_known None = false
 
 abbrev pub is_class : ℕ → Bool
 is_class code = is_known (class_of code)
 
 -- the wood at a code; every class of an accepted record is known
-abbrev pub wood_in : Class → Wood
-wood_in (Known w) = w
-wood_in Unknown = record { kind = Softwood; density = 0 }
+abbrev pub wood_in : Option Wood → Wood
+wood_in (Some w) = w
+wood_in None = record { kind = Softwood; density = 0 }
 
 abbrev pub wood_of : ℕ → Wood
 wood_of code = wood_in (class_of code)
@@ -77,25 +72,24 @@ k90_of Softwood d = 1350 + 15 * d
 k90_of Hardwood d = 900 + 15 * d
 
 -- 01: steel fu in N/mm²: 1 S235, 2 S275, 3 S355
-unfoldable pub steel_of : ℕ → Listed
-steel_of = lookup Unlisted (line 1 (Value 360) ∷ line 2 (Value 430) ∷ line 3 (Value 510) ∷ [])
+unfoldable pub steel_of : ℕ → Option ℕ
+steel_of = lookup None (line 1 (Some 360) ∷ line 2 (Some 430) ∷ line 3 (Some 510) ∷ [])
 
 -- one service class: kmod for the durations 1 permanent, 2 long, 3 medium, 4 short, 5 instantaneous
-abbrev pub durations : ℕ → ℕ → ℕ → ℕ → ℕ → ℕ → Listed
+abbrev pub durations : ℕ → ℕ → ℕ → ℕ → ℕ → ℕ → Option ℕ
 durations a b c d e =
-    lookup Unlisted
-    (line 1 (Value a) ∷ line 2 (Value b) ∷ line 3 (Value c) ∷ line 4 (Value d) ∷ line 5 (Value e) ∷ [])
+    lookup None
+    (line 1 (Some a) ∷ line 2 (Some b) ∷ line 3 (Some c) ∷ line 4 (Some d) ∷ line 5 (Some e) ∷ [])
 
 -- 01, 'Rows, share and use': kmod in hundredths by service class and duration
-unfoldable pub kmod_of : ℕ → ℕ → Listed
+unfoldable pub kmod_of : ℕ → ℕ → Option ℕ
 kmod_of =
-    lookup (λ duration. Unlisted)
+    lookup (λ duration. None)
     (line 1 (durations 60 70 80 90 110)
     ∷ line 2 (durations 60 70 80 90 110)
     ∷ line 3 (durations 50 55 65 70 90)
     ∷ [])
 
 -- what such a table has; every code of an accepted record is listed
-abbrev pub listed : Listed → ℕ
-listed (Value n) = n
-listed Unlisted = 0
+abbrev pub listed : Option ℕ → ℕ
+listed entry = unwrap_or entry 0

@@ -14,10 +14,5 @@ fn main(rt: HostRuntime) {
 
 // Whether anything stands after the program's name.
 fn has_argument<R: Env>(rt: &R) -> bool {
-    let mut none = [0u8; 0];
-    match rt.arg(1, &mut none) {
-        Ok(_) => true,
-        Err(FillError::TooLong) => true,
-        Err(FillError::NotPresent) => false,
-    }
+    !matches!(rt.arg(1, &mut []), Err(FillError::NotPresent))
 }

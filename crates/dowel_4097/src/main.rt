@@ -1,4 +1,4 @@
-// The program `dowel`, run on 4,097 bytes, which are too many.
+// The program `dowel`, run on 4,097 bytes, which are too many. It shares `console::answer`; the buffer is each program's own.
 #![tactic(auto)]
 
 fn main(rt: HostRuntime) {

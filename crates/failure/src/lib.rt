@@ -22,8 +22,6 @@ fn write_failure<R: Eprint + Alloc>(rt: &R, what: &str, error: io::Error) -> io:
 
 // An error of the system's ends in its number, as in ` (os error 21)`.
 fn without_number(text: &str) -> &str {
-    match text.split_once(" (os error ") {
-        Some((words, _)) => words,
-        None => text,
-    }
+    text.split_once(" (os error ")
+        .map_or(text, |(words, _)| words)
 }

@@ -1,11 +1,42 @@
 // The files that a program's arguments name: opened, or told to standard error, and read as far as they can be.
 #![tactic(auto)]
 
-ghost use Rattle.std.specs.Prelude.{◌≡◌, ◌≤◌, length, IfSome};
+ghost use Rattle.std.specs.Prelude.{◌≡◌, ◌≤◌, length, vec_len, IfSome, IfOk};
 
+use std::alloc::{AllocError, Global};
+use std::env::Env;
 use std::fs::File;
 use std::io::{ErrorKind, Read};
 use std::{io, str};
+
+// The longest name that a file may have, and how many are read at most.
+const LONGEST_NAME: usize = 4096;
+
+const MOST_FILES: usize = 1000;
+
+// Hands the name and the file of each argument to `each`, up to the first whose name is too long or no text, or that cannot be opened.
+// One at a time, since `env::args` fails where any argument is no text, before a file is read.
+pub fn each_file<F: FnMut(&str, File) -> io::Result<()>>(
+    rt: &HostRuntime,
+    mut each: F,
+) -> io::Result<()>
+    requires { F.IsAlwaysCallable each }
+{
+    for i in 1..MOST_FILES {
+        let mut room = [0u8; LONGEST_NAME];
+        let Ok(length) = rt.arg(i, &mut room) else {
+            return Ok(());
+        };
+        let Some(path) = name(rt, &room[..length]) else {
+            return Ok(());
+        };
+        let Some(file) = open(rt, path) else {
+            return Ok(());
+        };
+        each(path, file)?;
+    }
+    Ok(())
+}
 
 // A file's name as text, which std wants of a path; where it is none, that is told to standard error.
 pub fn name<'a, R: Eprint + Alloc>(rt: &R, argument: &'a [u8]) -> Option<&'a str>
@@ -35,16 +66,15 @@ pub fn open(rt: &HostRuntime, path: &str) -> Option<File> {
     }
 }
 
+// One read; where it fails, nothing was read.
 fn read_some<R: Read>(from: &mut R, part: &mut [u8]) -> usize
     ensures { result ≤ length part.old }
 {
-    match from.read(part) {
-        Ok(n) => n,
-        Err(_) => 0,
-    }
+    from.read(part).unwrap_or(0)
 }
 
-// Reads until the buffer is full, the input ends or a read fails, and answers how many bytes stand at the buffer's start.
+// Reads until the buffer is full, the input ends or a read fails, and answers how many bytes stand at the buffer's start. std's `read_exact`
+// and `read_to_end` would not say how many those are where a read fails.
 pub fn read_full<R: Read>(from: &mut R, buffer: &mut [u8]) -> usize
     ensures { result ≤ length buffer.new }
 {
@@ -57,4 +87,14 @@ pub fn read_full<R: Read>(from: &mut R, buffer: &mut [u8]) -> usize
         done += n;
     }
     done
+}
+
+// What is read until there are `most` bytes, the input ends or a read fails.
+pub fn read_up_to<R: Read>(alloc: Global, from: &mut R, most: usize) -> Result<Vec<u8>, AllocError>
+    ensures { IfOk result (λ bytes. vec_len bytes ≤ most) }
+{
+    let mut bytes = vec![in alloc; 0; most]?;
+    let n = read_full(from, &mut bytes);
+    bytes.truncate(n);
+    Ok(bytes)
 }

@@ -48,7 +48,7 @@ fn plane_member(diameter: u8, m: &Member, along: u64, total: u64) -> Timber
     let wood = codes::wood_of(m.class);
     Timber {
         density: wood.density,
-        k90: codes::k90(wood.kind, diameter),
+        k90: wood.kind.k90(diameter),
         along: along * along,
         total,
         thickness: m.thickness as u64,
@@ -66,7 +66,7 @@ fn capacity_of(v: &Values, total: u64, along1: u64, along2: u64) -> u64
         member1: plane_member(diameter, &v.members.member1, along1, total),
         member2: plane_member(diameter, &v.members.member2, along2, total),
         diameter: diameter as u64,
-        steel: codes::value_of(codes::steel_strength(v.dowel.steel)),
+        steel: codes::steel_strength(v.dowel.steel).unwrap_or(0),
         planes: v.members.planes as u64,
     })
 }
@@ -94,7 +94,7 @@ fn demand_of(v: &Values, taken: Both) -> Demand
         member1: taken.member1,
         member2: taken.member2,
         planes2: twice_planes(v.positions.n, v.members.planes),
-        kmod: codes::value_of(codes::kmod_hundredths(loads.service_class, loads.duration)),
+        kmod: codes::kmod_hundredths(loads.service_class, loads.duration).unwrap_or(0),
         capacity: capacity_of(v, total, taken.member1.along, taken.member2.along),
     }
 }

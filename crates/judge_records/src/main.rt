@@ -2,47 +2,26 @@
 #![tactic(auto)]
 
 use console::Noting;
-use line::put;
-use std::env::Env;
+use std::fs::File;
 use std::io;
-use std::io::ErrorKind;
 
 fn main(rt: HostRuntime) {
-    for i in 1..1000 {
-        if !judge_file(&rt, i) {
-            return;
-        }
-    }
+    let _ = intake::each_file(&rt, |path, file| {
+        judge_file(&rt, path, file);
+        Ok(())
+    });
 }
 
-// Writes a name of up to 4,096 bytes and a line of up to 92 together, by one write.
-fn write_named(rt: &HostRuntime, name: &[u8], line: &[u8]) -> io::Result<()> {
-    if 4096 < name.len() {
-        return Err(io::Error::from(ErrorKind::InvalidInput));
-    }
-    if 92 < line.len() {
-        return Err(io::Error::from(ErrorKind::InvalidInput));
-    }
-    let mut text = [0u8; 4190];
-    let view: &mut [u8] = &mut text;
-    let colon = put(name, view, 0);
-    let start = put(b": ", view, colon);
-    let end = put(line, view, start);
-    rt.write_all(&text[..end])
+// Writes a file's name and its line together, by one write.
+fn write_named(rt: &HostRuntime, name: &str, line: &[u8]) -> io::Result<()> {
+    let mut text = Vec::from_slice(rt.alloc(), name.as_bytes())?;
+    text.extend_from_slice(b": ")?;
+    text.extend_from_slice(line)?;
+    rt.write_all(&text)
 }
 
-// The file named by argument i; false where there is none.
-fn judge_file(rt: &HostRuntime, i: usize) -> bool {
-    let mut room = [0u8; 4096];
-    let Ok(length) = rt.arg(i, &mut room) else {
-        return false;
-    };
-    let Some(path) = intake::name(rt, &room[..length]) else {
-        return false;
-    };
-    let Some(opened) = intake::open(rt, path) else {
-        return false;
-    };
+// Writes the line of a file. What fails is told to standard error, and the next file is judged.
+fn judge_file(rt: &HostRuntime, path: &str, opened: File) {
     let mut file = Noting::new(opened);
     let mut buffer = [0u8; 4096];
     let a = console::judged(&mut file, &mut buffer);
@@ -50,8 +29,7 @@ fn judge_file(rt: &HostRuntime, i: usize) -> bool {
     let n = a.length;
     if n == 0 {
         file.tell(rt, path);
-    } else if let Err(error) = write_named(rt, path.as_bytes(), &line[..n]) {
+    } else if let Err(error) = write_named(rt, path, &line[..n]) {
         failure::fail(rt, "standard output", error);
     }
-    true
 }

@@ -1,18 +1,18 @@
 -- Laws of numbers written into bytes: runs of stores that follow one another, and that reading undoes writing.
-use Prim.Native.Nat.{ℕ, suc, ◌+◌, ◌*◌, ◌-◌, ◌/◌, ◌%◌, ◌≤◌, ◌<◌}
+use Prim.Native.Nat.{ℕ, suc, ◌+◌, ◌*◌, ◌/◌, ◌%◌, ◌≤◌, ◌<◌}
 use native.Mathlib.Nat.{add-zero, suc-add, add-suc}
 use native.Mathlib.Omega.{arith}
-use borrow.Author.Tests.{lt-ltb, leb-true}
+use borrow.Author.Tests.{leb-true}
 use mathlib.Core.Bool.{true, and-eq-true_iff}
 use mathlib.Core.List.{List, [], ◌∷◌, ◌++◌}
-use mathlib.Core.Path.{◌≡◌, sym, ap, ◌∙◌}
+use mathlib.Core.Path.{◌≡◌, ap, ◌∙◌}
 use lib.Dec.{leb}
 use lib.IntN.{ℤ, pos, negsuc}
 use lib.ListN.{length, set}
 use lib.Seq.{sets, length-sets}
 use lib.Signed.{mag}
-use Rattle.numbers.specs.Numbers.{i32_bytes, twos_complement, complement_of, i32_at, between_z, coordinate, force}
-use Rattle.numbers.proofs.Complement.{signed_high}
+use Rattle.numbers.specs.Numbers.{i32_bytes, complement_of, i32_at, between_z, coordinate, force}
+use Rattle.numbers.proofs.Complement.{back}
 
 -- ---- runs of stores
 pub sets_append : (xs l ys : List ℕ) (i : ℕ) → sets (sets l i xs) (i + length xs) ys ≡ sets l i (xs ++ ys)
@@ -44,15 +44,9 @@ u16_back n = omega arith
 pub u32_back : (n : ℕ) → n % 65536 % 256 + n % 65536 / 256 * 256 + (n / 65536 % 256 + n / 65536 / 256 * 256) * 65536 ≡ n
 u32_back n = omega arith
 
-pub complement_back : (z : ℤ) → mag z < 2147483648 → twos_complement (complement_of z) ≡ z
-unfolding twos_complement complement_of
-complement_back (pos n) h = simp (lt-ltb n 2147483648 h)
-complement_back (negsuc n) h =
-    sym (signed_high (4294967295 - n) (omega arith) (omega arith)) ∙ ap negsuc (omega arith)
-
 pub i32_back : (z : ℤ) → mag z < 2147483648 → i32_at (i32_bytes z) 0 ≡ z
 unfolding i32_at
-i32_back z h = rw (u32_back (complement_of z)) (complement_back z h)
+i32_back z h = rw (u32_back (complement_of z)) (back z h)
 
 -- ---- the numbers that fit
 between_fits : (low high : ℕ) (z : ℤ) → between_z (negsuc low) (pos high) z ≡ true → low ≤ 1000000 → high ≤ 1000000 → mag z < 2147483648

@@ -3,86 +3,67 @@
 
 ghost use Rattle.std.specs.Prelude.{◌≡◌, ◌+◌, ◌≤◌, length};
 ghost use Rattle.std.proofs.lemmas.List.Edits.{sets};
-ghost use Rattle.numbers.specs.Numbers.{u16_at, u32_at, twos_complement, i32_at, u16_bytes, u32_bytes, complement_of, i32_bytes, between_z, coordinate, force};
+ghost use Rattle.numbers.specs.Numbers.{u16_at, u32_at, i32_at, u16_bytes, u32_bytes, i32_bytes, between_z, coordinate, force};
 
+// One function for each type: a trait would hold the same calls of std, and a ghost member for each.
 pub fn u16_at(s: &[u8], i: usize) -> u16
     requires { i + 2 ≤ length s.now }
     ensures { result ≡ u16_at s.now i }
 {
-    (s[i] as u16) + (s[i + 1] as u16) * 256
+    u16::from_le_bytes([s[i], s[i + 1]])
 }
 
 pub fn u32_at(s: &[u8], i: usize) -> u32
     requires { i + 4 ≤ length s.now }
     ensures { result ≡ u32_at s.now i }
 {
-    let low = u16_at(s, i) as u32;
-    let high = u16_at(s, i + 2) as u32;
-    low + high * 65536
+    u32::from_le_bytes([s[i], s[i + 1], s[i + 2], s[i + 3]])
 }
 
-fn signed(n: u32) -> i32
-    ensures { result ≡ twos_complement n }
-{
-    if n < 2147483648 {
-        n as i32
-    } else {
-        -1 - ((4294967295 - n) as i32)
-    }
-}
-
+#[tactic(auto, unfolding(crate::specs::Numbers::i32_at), using(crate::proofs::Complement::signed))]
 pub fn i32_at(s: &[u8], i: usize) -> i32
     requires { i + 4 ≤ length s.now }
     ensures { result ≡ i32_at s.now i }
 {
-    signed(u32_at(s, i))
+    u32_at(s, i).cast_signed()
 }
 
 pub fn put_u16(s: &mut [u8], i: usize, n: u16)
     requires { i + 2 ≤ length s.old }
     ensures { s.new ≡ sets s.old i (u16_bytes n) }
 {
-    s[i] = (n % 256) as u8;
-    s[i + 1] = (n / 256) as u8;
+    s[i..i + 2].copy_from_slice(&n.to_le_bytes());
 }
 
 fn put_u32(s: &mut [u8], i: usize, n: u32)
     requires { i + 4 ≤ length s.old }
     ensures { s.new ≡ sets s.old i (u32_bytes n) }
 {
-    put_u16(s, i, (n % 65536) as u16);
-    put_u16(s, i + 2, (n / 65536) as u16);
+    s[i..i + 4].copy_from_slice(&n.to_le_bytes());
 }
 
-fn complement_of(z: i32) -> u32
-    ensures { result ≡ complement_of z }
-{
-    if z < 0 {
-        4294967295 - ((-1 - z) as u32)
-    } else {
-        z as u32
-    }
-}
-
+#[tactic(auto, using(crate::proofs::Complement::bits))]
 pub fn put_i32(s: &mut [u8], i: usize, z: i32)
     requires { i + 4 ≤ length s.old }
     ensures { s.new ≡ sets s.old i (i32_bytes z) }
 {
-    put_u32(s, i, complement_of(z));
+    put_u32(s, i, z.cast_unsigned());
 }
 
 fn is_within(low: i32, high: i32, z: i32) -> bool
     ensures { result ≡ between_z low high z }
 {
-    (low <= z) & (z <= high)
+    (low..=high).contains(&z)
 }
 
+#[tactic(auto, unfolding(crate::specs::Numbers::coordinate))]
 pub fn is_coordinate(z: i32) -> bool
     ensures { result ≡ coordinate z }
 {
     is_within(-100000, 100000, z)
 }
 
+#[tactic(auto, unfolding(crate::specs::Numbers::force))]
 pub fn is_force(z: i32) -> bool
     ensures { result ≡ force z }
 {

@@ -70,7 +70,7 @@ fn member(diameter: u8, along: u64, thickness: u64) -> Timber
 {
     Timber {
         density: DENSITY,
-        k90: codes::k90(Kind::Softwood, diameter),
+        k90: Kind::Softwood.k90(diameter),
         along,
         total: TOTAL,
         thickness,

@@ -46,7 +46,7 @@ fn small(value: u64) -> u64
 fn square_of_twice(f: Factor, code: u8) -> u64 {
     match f {
         Factor::Wood => 4000000 * small(codes::wood_of(code).density) / 350,
-        Factor::Steel => 4000000 * small(codes::value_of(codes::steel_strength(code))) / 360,
+        Factor::Steel => 4000000 * small(codes::steel_strength(code).unwrap_or(0)) / 360,
     }
 }
 

@@ -103,7 +103,7 @@ fn example(moment: u64, capacity: u64) -> Tally
 {
     let m = Timber {
         density: 425,
-        k90: codes::k90(Kind::Softwood, 16),
+        k90: Kind::Softwood.k90(16),
         along: 1,
         total: 1,
         thickness: 800,

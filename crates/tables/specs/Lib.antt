@@ -2,3 +2,4 @@
 pub mod Tests
 pub mod Classes
 pub mod Table
+pub mod Told

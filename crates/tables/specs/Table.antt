@@ -1,8 +1,7 @@
 -- The table by which the classes of a record are read: the printed one, or a firm's own (02, A4). A firm's is the list of its bytes.
-use Rattle.std.specs.Prelude.{ℕ, ◌%◌, ◌≡◌, Bool, true, cond, not, ◌&&◌, ◌||◌, List, [], ◌∷◌, ◌++◌, map, ltb, leb, eqb, pos, length, drop}
+use Rattle.std.specs.Prelude.{ℕ, ◌%◌, ◌≡◌, Bool, true, cond, not, ◌&&◌, ◌||◌, List, [], ◌∷◌, ◌++◌, map, ltb, leb, eqb, pos, length, drop, Option}
 use Rattle.numbers.specs.Fields.{Width, size, place, field, field_bytes}
 use Rattle.numbers.specs.Fields.Width.{U8, U16}
-use Rattle.codes.specs.declared.Class.{Class}
 use Rattle.codes.specs.declared.Kind.{Kind}
 use Rattle.codes.specs.declared.Kind.TheVariants.{Softwood, Hardwood}
 use Rattle.codes.specs.Tables.{Line, line, softwood, hardwood, printed_classes, is_known, wood_in}
@@ -11,14 +10,14 @@ use Rattle.codes.specs.declared.Wood.{Wood}
 use Rattle.chain.specs.Chain.{chained}
 use Rattle.chain.specs.declared.Width.TheVariants.{Two}
 use Rattle.tables.specs.Tests.{Test, test, first_holding}
-use Rattle.tables.specs.declared.Entry.{Entry}
+use Rattle.tables.specs.declared.entry.Entry.{Entry}
 use Rattle.tables.specs.declared.Source.{Source}
 use Rattle.tables.specs.declared.Source.TheVariants.{Printed, Own}
 
 -- ---- what a judgement takes: the tests by which the table is turned away, before every other test; and a line for each class
 pub record Table : Type 0 where
   pub tests : List Test
-  pub classes : List (Line Class)
+  pub classes : List (Line (Option Wood))
 
 -- what it has at a code: whether it has the class, and the class's wood
 abbrev pub is_class : Table → ℕ → Bool
@@ -87,10 +86,10 @@ unfoldable pub refusal15 : List ℕ → Bool
 refusal15 b = not (rise 0 (entries_of b))
 
 -- what an entry says: kind 0 softwood, 1 hardwood
-abbrev pub class_of : Entry → Class
+abbrev pub class_of : Entry → Option Wood
 class_of e = cond (eqb e.kind 0) (softwood e.density) (hardwood e.density)
 
-abbrev pub line_of : Entry → Line Class
+abbrev pub line_of : Entry → Line (Option Wood)
 line_of e = line e.code (class_of e)
 
 -- 14 'tested first'
@@ -98,25 +97,25 @@ abbrev pub own_table : List ℕ → Table
 own_table b = record { tests = test 14 (refusal14 b) ∷ test 15 (refusal15 b) ∷ []; classes = map line_of (entries_of b) }
 
 -- ---- the table that a call names, with the bytes that it hands in for it: 'It replaces the printed table'
-abbrev pub table_of : Source → List ℕ → Table
-table_of Printed b = printed
-table_of Own b = own_table b
+abbrev pub table_of : Source → Table
+table_of Printed = printed
+table_of (Own b) = own_table b.now
 
 -- ---- a table's classes in this layout
 abbrev pub kind_code : Kind → ℕ
 kind_code Softwood = 0
 kind_code Hardwood = 1
 
-abbrev pub line_bytes : Line Class → List ℕ
+abbrev pub line_bytes : Line (Option Wood) → List ℕ
 line_bytes l =
     field_bytes entry_fields
     (pos l.code ∷ pos (kind_code (wood_in l.entry).kind) ∷ pos (wood_in l.entry).density ∷ [])
 
-abbrev pub lines_bytes : List (Line Class) → List ℕ
+abbrev pub lines_bytes : List (Line (Option Wood)) → List ℕ
 lines_bytes [] = []
 lines_bytes (l ∷ ls) = line_bytes l ++ lines_bytes ls
 
-abbrev pub table_bytes : List (Line Class) → List ℕ
+abbrev pub table_bytes : List (Line (Option Wood)) → List ℕ
 table_bytes ls = field_bytes front_fields (pos 1 ∷ pos 6 ∷ pos (length (lines_bytes ls)) ∷ []) ++ lines_bytes ls
 
 -- 'The printed table, written in this layout'

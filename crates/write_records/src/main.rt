@@ -5,15 +5,11 @@
 
 ghost use Rattle.std.specs.Prelude.{◌≤◌};
 
-use numbers::{i32_at, u32_at};
-use std::env::Env;
+use std::alloc::AllocError;
 use std::io;
 
 // Longer than any file that it is run on.
 const LONGEST: usize = 4096;
-
-// The word `case`, as a number.
-const CASE: i32 = 1702060387;
 
 // Where the numbers of a case stand, counted in numbers: how long the slices are, then the fields, then the lists.
 const ROOM: usize = 1;
@@ -34,152 +30,102 @@ const Y: usize = 120;
 
 const MARKS: usize = 200;
 
-// How many numbers a list has, and how many bytes a buffer.
+// How many numbers a list has at most, and how many bytes a buffer.
 const MOST: usize = 80;
 
 const MOST_BYTES: usize = 640;
 
-// Number k of a file; 0 past its end.
-fn number_at(bytes: &[u8], k: usize) -> i32
-    requires { k ≤ 1000 }
-{
-    let at = 4 * k;
-    if bytes.len() < at + 4 {
-        return 0;
+// The lists of numbers from which a record is written.
+#[derive(Clone, Copy)]
+struct Lists<'a> {
+    fields: &'a [i32],
+    x: &'a [i32],
+    y: &'a [i32],
+    marks: &'a [i32],
+}
+
+impl Lists<'_> {
+    // Writes into a buffer of `room` bytes that holds 170 everywhere; the answer has two numbers more than it needs. Prints what came back,
+    // the answer, and the buffer.
+    fn write(self, rt: &HostRuntime, room: usize) -> io::Result<()> {
+        let mut buffer = vec![in rt.alloc(); 170u8; room]?;
+        let mut answer = [7u64; 4];
+        let code = negwishal::negwishal_write(
+            self.fields,
+            self.x,
+            self.y,
+            self.marks,
+            &mut buffer,
+            &mut answer,
+        );
+        print!(rt; " {code}")?;
+        for number in &answer {
+            print!(rt; " {number}")?;
+        }
+        print!(rt; " :")?;
+        for byte in &buffer {
+            print!(rt; " {byte}")?;
+        }
+        Ok(())
     }
-    i32_at(bytes, at)
 }
 
-// A length that a case names, or `most`.
-fn length_at(bytes: &[u8], k: usize, most: usize) -> usize
-    requires { k ≤ 1000 }
-    ensures { result ≤ most }
-{
-    let at = 4 * k;
-    if bytes.len() < at + 4 {
-        return most;
+// The numbers of a case.
+#[derive(Clone, Copy)]
+struct Case<'a>(&'a [u8]);
+
+impl Case<'_> {
+    // Number k, where the file has one.
+    fn number(self, k: usize) -> Option<i32>
+        requires { k ≤ 1000 }
+    {
+        let at = 4 * k;
+        if self.0.len() < at + 4 {
+            return None;
+        }
+        Some(numbers::i32_at(self.0, at))
     }
-    let n = u32_at(bytes, at) as usize;
-    if n <= most { n } else { most }
-}
 
-fn list_at(bytes: &[u8], k: usize) -> [i32; MOST]
-    requires { k ≤ 900 }
-{
-    let mut l = [0i32; MOST];
-    let mut i = 0;
-    while i < MOST {
-        l[i] = number_at(bytes, k + i);
-        i += 1;
+    // The length that number k names, but no more than `most`; `most` where there is none.
+    fn length(self, k: usize, most: usize) -> usize
+        requires { k ≤ 1000 }
+        ensures { result ≤ most }
+    {
+        match self.number(k) {
+            Some(n) => most.min(n.cast_unsigned() as usize),
+            None => most,
+        }
     }
-    l
-}
 
-fn write_number(rt: &HostRuntime, n: u64) -> io::Result<()> {
-    print!(rt; " {n}")
-}
-
-fn write_byte(rt: &HostRuntime, n: u8) -> io::Result<()> {
-    write_number(rt, n as u64)
-}
-
-fn write_bytes(rt: &HostRuntime, s: &[u8]) -> io::Result<()> {
-    print!(rt; " :")?;
-    let mut i = 0;
-    while i < s.len() {
-        write_byte(rt, s[i])?;
-        i += 1;
+    // The numbers from k on, 0 past the end: as many as number `count_at` names.
+    fn list(self, rt: &HostRuntime, k: usize, count_at: usize) -> Result<Vec<i32>, AllocError>
+        requires { (k ≤ 900) × (count_at ≤ 1000) }
+    {
+        let mut list = Vec::new(rt.alloc());
+        for i in 0..self.length(count_at, MOST) {
+            list.push(self.number(k + i).unwrap_or(0))?;
+        }
+        Ok(list)
     }
-    Ok(())
+
+    fn run(self, rt: &HostRuntime) -> io::Result<()> {
+        let fields = self.list(rt, FIELDS, FIELDS_LENGTH)?;
+        let x = self.list(rt, X, X_LENGTH)?;
+        let y = self.list(rt, Y, Y_LENGTH)?;
+        let marks = self.list(rt, MARKS, MARKS_LENGTH)?;
+        let lists = Lists {
+            fields: &fields,
+            x: &x,
+            y: &y,
+            marks: &marks,
+        };
+        lists.write(rt, self.length(ROOM, MOST_BYTES))
+    }
 }
 
 // The first n numbers of a list, or all.
 fn first(l: &[i32], n: usize) -> &[i32] {
-    if n < l.len() { &l[..n] } else { l }
-}
-
-// What came back, the answer, and the buffer.
-fn write_values(
-    rt: &HostRuntime,
-    fields: &[i32],
-    x: &[i32],
-    y: &[i32],
-    marks: &[i32],
-    buffer: &mut [u8],
-    answer: &mut [u64],
-) -> io::Result<()> {
-    let code = negwishal::negwishal_write(fields, x, y, marks, buffer, answer);
-    write_number(rt, code as u64)?;
-    let mut i = 0;
-    while i < answer.len() {
-        write_number(rt, answer[i])?;
-        i += 1;
-    }
-    write_bytes(rt, buffer)
-}
-
-// Writes into the first `room` bytes of a buffer that holds 170 everywhere; the answer has two numbers more than it needs.
-fn write_into(
-    rt: &HostRuntime,
-    fields: &[i32],
-    x: &[i32],
-    y: &[i32],
-    marks: &[i32],
-    buffer: &mut [u8],
-    room: usize,
-) -> io::Result<()> {
-    if buffer.len() < room {
-        return Ok(());
-    }
-    let mut answer = [7u64; 4];
-    write_values(rt, fields, x, y, marks, &mut buffer[..room], &mut answer)
-}
-
-fn write_lists(
-    rt: &HostRuntime,
-    fields: &[i32],
-    x: &[i32],
-    y: &[i32],
-    marks: &[i32],
-    room: usize,
-) -> io::Result<()> {
-    let mut buffer = [170u8; MOST_BYTES];
-    write_into(rt, fields, x, y, marks, &mut buffer, room)
-}
-
-fn run_case(rt: &HostRuntime, bytes: &[u8]) -> io::Result<()> {
-    let fields = list_at(bytes, FIELDS);
-    let x = list_at(bytes, X);
-    let y = list_at(bytes, Y);
-    let marks = list_at(bytes, MARKS);
-    write_lists(
-        rt,
-        first(&fields, length_at(bytes, FIELDS_LENGTH, MOST)),
-        first(&x, length_at(bytes, X_LENGTH, MOST)),
-        first(&y, length_at(bytes, Y_LENGTH, MOST)),
-        first(&marks, length_at(bytes, MARKS_LENGTH, MOST)),
-        length_at(bytes, ROOM, MOST_BYTES),
-    )
-}
-
-fn write_again(
-    rt: &HostRuntime,
-    fields: &[i32],
-    x: &[i32],
-    y: &[i32],
-    marks: &[i32],
-    n: u64,
-    room: usize,
-) -> io::Result<()> {
-    let dowels = n as usize;
-    write_lists(
-        rt,
-        fields,
-        first(x, dowels),
-        first(y, dowels),
-        first(marks, dowels),
-        room,
-    )
+    l.get(..n).unwrap_or(l)
 }
 
 fn run_record(rt: &HostRuntime, bytes: &[u8]) -> io::Result<()> {
@@ -196,47 +142,30 @@ fn run_record(rt: &HostRuntime, bytes: &[u8]) -> io::Result<()> {
         &mut marks,
         &mut answer,
     );
-    let number = answer[0];
-    let n = answer[1];
-    write_number(rt, code as u64)?;
-    write_number(rt, number)?;
-    write_number(rt, n)?;
-    if number == 0 {
-        return write_again(rt, &fields, &x, &y, &marks, n, bytes.len());
+    let [refusal, dowels] = answer;
+    print!(rt; " {code} {refusal} {dowels}")?;
+    if refusal != 0 {
+        return Ok(());
     }
-    Ok(())
-}
-
-// The file named by argument i; false where there is none.
-fn run_file(rt: &HostRuntime, i: usize) -> io::Result<bool> {
-    let mut room = [0u8; 4096];
-    let Ok(length) = rt.arg(i, &mut room) else {
-        return Ok(false);
+    let n = dowels as usize;
+    let lists = Lists {
+        fields: &fields,
+        x: first(&x, n),
+        y: first(&y, n),
+        marks: first(&marks, n),
     };
-    let Some(path) = intake::name(rt, &room[..length]) else {
-        return Ok(false);
-    };
-    let Some(mut file) = intake::open(rt, path) else {
-        return Ok(false);
-    };
-    let mut all = [0u8; LONGEST];
-    let n = intake::read_full(&mut file, &mut all);
-    let bytes = &all[..n];
-    print!(rt; "{path}:")?;
-    if number_at(bytes, 0) == CASE {
-        run_case(rt, bytes)?;
-    } else {
-        run_record(rt, bytes)?;
-    }
-    println!(rt; "")?;
-    Ok(true)
+    lists.write(rt, bytes.len())
 }
 
 fn main(rt: HostRuntime) -> io::Result<()> {
-    for i in 1..1000 {
-        if !run_file(&rt, i)? {
-            return Ok(());
+    intake::each_file(&rt, |path, mut file| {
+        let bytes = intake::read_up_to(rt.alloc(), &mut file, LONGEST)?;
+        print!(rt; "{path}:")?;
+        if bytes.starts_with(b"case") {
+            Case(&bytes).run(&rt)?;
+        } else {
+            run_record(&rt, &bytes)?;
         }
-    }
-    Ok(())
+        println!(rt; "")
+    })
 }

@@ -1,20 +1,19 @@
-use mathlib.Core.Path.{◌∙◌, sym}
-use native.Mathlib.Omega.{arith}
-use Rattle.tables.proofs.Entries.{found_none, found_here, found_later, own_lookup}
+use borrow.Author.Rules.{rules}
+use lib.Dec.{eqb}
+use Rattle.std.proofs.lemmas.Iterator.Search.{find_from_yields_List}
+use Rattle.std.proofs.lemmas.Iterator.Consumers.{YieldsList-from_first}
+use Rattle.tables.specs.Classes.{class_in}
+use Rattle.tables.specs.declared.entry.Entry.{Entry}
+use Rattle.tables.specs.declared.entry.Entries.{Entries}
+use Rattle.tables.specs.Table.{entries_in, entries_of}
+use Rattle.tables.proofs.Entries.{found}
 use Rattle.tables.proofs.own_class.Goals as goal
 
-pub loop-at-init : goal.loop-at-init
-loop-at-init c = (omega arith, own_lookup c.args.table.now c.args.code)
-
-pub returns-then-table-at : goal.returns-then-table-at
-returns-then-table-at c = let a = c.args in
-    c.class_of_entry.ensures
-    ∙ sym (c.loop-at.invariant.1 ∙ found_here a.table.now c.loop-at.at a.code (omega arith) c.if-table-at.true c.entry_at.ensures)
-
-pub loop-at-preserved : goal.loop-at-preserved
-loop-at-preserved c = let a = c.args in
-    (omega arith, c.loop-at.invariant.1 ∙ found_later a.table.now c.loop-at.at a.code (omega arith) c.if-table-at.false)
-
 pub returns : goal.returns
-returns c = let a = c.args in
-    sym (c.loop-at.invariant.1 ∙ found_none a.table.now c.loop-at.at a.code (omega arith))
+unfolding class_in
+returns c = let es = entries_of c.args.table.now in
+    found c.args.code es c.find.result c.map.result
+    (find_from_yields_List (λ (e : Entry). eqb c.args.code e.code) c.find.new.self _ c.find.result c.find.ensures.ran
+    (YieldsList-from_first (λ (e : Entry). e) (λ (s : Entries). entries_in s.0.now) es (cc))
+    (λ x b f k. search rules))
+    (search rules)

@@ -19,10 +19,10 @@ plane_is m w total c1 c2 p q r = λ i. record { member1 = p i; member2 = q i; di
 
 pub capacity_thousandths-requires : goal.capacity_thousandths-requires
 capacity_thousandths-requires c =
-    subst⁻¹ PlaneWithin (plane_is _ _ _ _ _ c.plane_member.ensures c.plane_member-2.ensures (c.value_of.ensures ∙ ap listed c.steel_strength.ensures))
+    subst⁻¹ PlaneWithin (plane_is _ _ _ _ _ c.plane_member.ensures c.plane_member-2.ensures (c.unwrap_or.ensures ∙ ap listed c.steel_strength.ensures))
     c.requires.plane_within
 
 pub returns : goal.returns
 returns c =
     c.capacity_thousandths.ensures.is
-    ∙ ap capacity_of (plane_is _ _ _ _ _ c.plane_member.ensures c.plane_member-2.ensures (c.value_of.ensures ∙ ap listed c.steel_strength.ensures))
+    ∙ ap capacity_of (plane_is _ _ _ _ _ c.plane_member.ensures c.plane_member-2.ensures (c.unwrap_or.ensures ∙ ap listed c.steel_strength.ensures))
