@@ -60,22 +60,22 @@ module _ {p : Plane} (w : PlaneWithin p) {j : Joined} (h : JoinedOf p.member1 p.
     });
   }
 
-  pub force_1 : ForceWithin (dowel_factor p.diameter * p.member1.thickness) (value j.num1) (value j.den1)
-  force_1 = force_within p w p.member1 w.member1 (value j.num1) (value j.den1) h.first_num h.first_den
+  pub force_1 : ForceWithin (dowel_factor p.diameter * p.member1.thickness) (value j.bearing1.num) (value j.bearing1.den)
+  force_1 = force_within p w p.member1 w.member1 (value j.bearing1.num) (value j.bearing1.den) h.first_num h.first_den
 
-  pub force_2 : ForceWithin (dowel_factor p.diameter * p.member2.thickness) (value j.num2) (value j.den2)
-  force_2 = force_within p w p.member2 w.member2 (value j.num2) (value j.den2) h.second_num h.second_den
+  pub force_2 : ForceWithin (dowel_factor p.diameter * p.member2.thickness) (value j.bearing2.num) (value j.bearing2.den)
+  force_2 = force_within p w p.member2 w.member2 (value j.bearing2.num) (value j.bearing2.den) h.second_num h.second_den
 
   -- the terms are those of the definition
   pub gathered : (m a b c x : ℕ)
       → m ≡ yield_moment_of p.diameter p.steel
       → a ≡ first_of (dowel_factor p.diameter) m (value j.nums) (value j.whole)
-      → b ≡ wedge_of (dowel_factor p.diameter * p.member1.thickness * value j.num1) (value j.den1)
+      → b ≡ wedge_of (dowel_factor p.diameter * p.member1.thickness * value j.bearing1.num) (value j.bearing1.den)
       (share_root_of (value j.cross2) (value j.whole))
       → c ≡ cond (eqb p.planes 1)
-      (wedge_of (dowel_factor p.diameter * p.member2.thickness * value j.num2) (value j.den2)
+      (wedge_of (dowel_factor p.diameter * p.member2.thickness * value j.bearing2.num) (value j.bearing2.den)
       (share_root_of (value j.cross1) (value j.whole)))
-      (half_of (dowel_factor p.diameter * p.member2.thickness * value j.num2) (value j.den2))
+      (half_of (dowel_factor p.diameter * p.member2.thickness * value j.bearing2.num) (value j.bearing2.den))
       → x ≡ min (min a b) c
       → x ≡ capacity_of p
   unfolding capacity_of second_of third_of

@@ -11,17 +11,17 @@ use Rattle.strength.proofs.capacity.capacity_thousandths.Goals as goal
 bracketed : (p : Plane) → PlaneWithin p → (r : ℕ) → r ≡ capacity_of p → CapacityThousandths p r
 bracketed p w r e = record { low = rw e (capacity_low p w); high = rw e (capacity_high p w); is = e }
 
-pub first-by_dowel-requires : goal.first-by_dowel-requires
-first-by_dowel-requires c = first_within c.requires c.join-j.ensures c.yield_moment-m.ensures.is
+pub first_term-by_dowel-requires : goal.first_term-by_dowel-requires
+first_term-by_dowel-requires c = first_within c.requires c.join-j.ensures c.yield_moment-m.ensures.is
 
-pub second-by_side-requires : goal.second-by_side-requires
-second-by_side-requires c = (force_1 c.requires c.join-j.ensures, parted c.requires c.join-j.ensures)
+pub second_term-by_side-requires : goal.second_term-by_side-requires
+second_term-by_side-requires c = (force_1 c.requires c.join-j.ensures, parted c.requires c.join-j.ensures)
 
-pub third-by_other-requires : goal.third-by_other-requires
-third-by_other-requires c = (force_2 c.requires c.join-j.ensures, parted c.requires c.join-j.ensures)
+pub third_term-by_other-requires : goal.third_term-by_other-requires
+third_term-by_other-requires c = (force_2 c.requires c.join-j.ensures, parted c.requires c.join-j.ensures)
 
 pub returns : goal.returns
 returns c = bracketed _ c.requires _
-    (gathered c.requires c.join-j.ensures _ _ _ _ _ c.yield_moment-m.ensures.is c.first-by_dowel.ensures
-    c.second-by_side.ensures c.third-by_other.ensures
-    (c.least-2.ensures ∙ ap (λ (z : ℕ). min z c.third-by_other.result) c.least.ensures))
+    (gathered c.requires c.join-j.ensures _ _ _ _ _ c.yield_moment-m.ensures.is c.first_term-by_dowel.ensures
+    c.second_term-by_side.ensures c.third_term-by_other.ensures
+    (c.min-2.ensures ∙ ap (λ (z : ℕ). min z c.third_term-by_other.result) c.min.ensures))

@@ -3,7 +3,7 @@ use Rattle.std.proofs.Common.{◌≡◌, ℕ, ◌+◌, ◌*◌, ◌/◌, ◌^◌
 use Rattle.wide.proofs.Bits.{product_bits}
 use Rattle.strength.specs.Working.{wedge_of}
 use Rattle.strength.proofs.Room.{room, made, divided_is}
-use Rattle.strength.proofs.terms.wedge_term.Goals as goal
+use Rattle.strength.proofs.terms.Bearing.wedge.Goals as goal
 
 below : (force num den root a b : ℕ) → a ≡ num * (force * root) → b ≡ den * (1073741824 + root) → 0 < den → force * num ≤ 1073741824 * den
     → a < 18446744073709551616 * b

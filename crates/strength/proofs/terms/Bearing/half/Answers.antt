@@ -3,7 +3,7 @@ use Rattle.std.proofs.Common.{◌≡◌, ℕ, ◌*◌, ◌/◌, ◌<◌, ◌≤�
 use Rattle.wide.proofs.Bits.{product_bits}
 use Rattle.strength.specs.Working.{half_of}
 use Rattle.strength.proofs.Room.{room, made, divided_is}
-use Rattle.strength.proofs.terms.half_term.Goals as goal
+use Rattle.strength.proofs.terms.Bearing.half.Goals as goal
 
 below : (force num den a b : ℕ) → a ≡ num * force → b ≡ den * 2 → 0 < den → force * num ≤ 1073741824 * den → a < 18446744073709551616 * b
 below force num den a b ea eb p h = omega arith
