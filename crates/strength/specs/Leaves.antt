@@ -44,11 +44,6 @@ pub record Portion (part whole : ℕ) : Type 0 where
   pub positive : 0 < whole
   pub bits : whole < 2 ^ 147
 
--- s² and c² are such parts
-pub record Parted (j : Joined) : Type 0 where
-  pub s : Portion (value j.cross2) (value j.whole)
-  pub c : Portion (value j.cross1) (value j.whole)
-
 -- what the first term is made of: the dowel's factor k, the yield moment m, the product of the numerators, the sum
 pub record FirstWithin (k m nums whole : ℕ) : Type 0 where
   pub factor : k ≤ 231240

@@ -1,16 +1,15 @@
-// The three terms whose least is the capacity of a shear plane, in whole thousandths of a newton.
-ghost use Rattle.std.specs.Prelude.{◌≡◌, ◌+◌, ◌*◌, ◌≤◌, cond, ◌==◌};
+// The bearings of both members, what is made of them, and the first of the three terms whose least is the capacity of a shear plane,
+// in whole thousandths of a newton.
+ghost use Rattle.std.specs.Prelude.{◌≡◌, ◌+◌, ◌*◌, ◌≤◌};
 ghost use Rattle.wide.specs.Natural.{value};
 ghost use Rattle.strength.specs.Shear.{MemberWithin};
-ghost use Rattle.strength.specs.Leaves.{BearingWithin, BearingOf, JoinedFrom, JoinedOf, Bits, Portion, Parted, FirstWithin, ForceWithin};
-ghost use Rattle.strength.specs.Working.{first_of, share_root_of, wedge_of, half_of};
+ghost use Rattle.strength.specs.Leaves.{BearingWithin, BearingOf, JoinedFrom, JoinedOf, Bits, Portion, FirstWithin};
+ghost use Rattle.strength.specs.Working.{first_of, share_root_of};
 
 use crate::plane::Timber;
 use crate::roots;
 
-// 2^30 and 2^60: the unit of the root of s² and c², and its square.
-const UNIT: u64 = 1073741824;
-
+// 2^60: the square of the unit of the root of s² and c².
 const UNIT_SQUARED: u64 = 1152921504606846976;
 
 // A bearing strength f = 82 (100 - d)/100 num/den.
@@ -31,33 +30,6 @@ pub fn bearing_of(m: Timber) -> Bearing
     wide::multiply_add_u64(&mut den, &wide::from_u64(m.total - m.along), m.k90);
     wide::multiply_add_u64(&mut den, &wide::from_u64(m.along), 1000);
     Bearing { num, den }
-}
-
-impl Bearing {
-    // The second term, and the third for one shear plane, with force num/den = 1000 f d t and root that of s² or c².
-    fn wedge(&self, force: u64, root: u64) -> u64
-        requires force_within { ForceWithin force (value self.now.num) (value self.now.den) }
-        requires root_bound { root ≤ 1073741824 }
-        ensures { result ≡ wedge_of (force * value self.now.num) (value self.now.den) root }
-    {
-        let mut a = [0u32; 5];
-        wide::multiply_add_u64(&mut a, &self.num, force * root);
-        let mut b = [0u32; 4];
-        wide::multiply_add_u64(&mut b, &self.den, UNIT + root);
-        wide::quotient(&mut a, &b)
-    }
-
-    // The third term for two shear planes.
-    fn half(&self, force: u64) -> u64
-        requires { ForceWithin force (value self.now.num) (value self.now.den) }
-        ensures { result ≡ half_of (force * value self.now.num) (value self.now.den) }
-    {
-        let mut a = [0u32; 4];
-        wide::multiply_add_u64(&mut a, &self.num, force);
-        let mut b = [0u32; 3];
-        wide::multiply_add_u64(&mut b, &self.den, 2);
-        wide::quotient(&mut a, &b)
-    }
 }
 
 // a b.
@@ -120,7 +92,7 @@ pub fn join(member1: Timber, member2: Timber) -> Joined
 
 impl Joined {
     // The whole root of 2^60 part/whole.
-    fn share_root(&self, part: &[u32; 5]) -> u64
+    pub fn share_root(&self, part: &[u32; 5]) -> u64
         requires { Portion (value part.now) (value self.now.whole) }
         ensures { result ≡ share_root_of (value part.now) (value self.now.whole) }
     {
@@ -139,31 +111,5 @@ impl Joined {
         let mut b = [0u32; 5];
         wide::multiply_add_u64(&mut b, &self.whole, 10);
         roots::whole_square_root(wide::quotient(&mut a, &b))
-    }
-
-    // The second term, with force = k times member 1's thickness.
-    pub fn second_term(&self, force: u64) -> u64
-        requires { ForceWithin force (value self.now.bearing1.num) (value self.now.bearing1.den) × Parted self.now }
-        ensures { result ≡ wedge_of (force * value self.now.bearing1.num) (value self.now.bearing1.den)
-            (share_root_of (value self.now.cross2) (value self.now.whole)) }
-    {
-        let side_root = self.share_root(&self.cross2);
-        self.bearing1.wedge(force, side_root)
-    }
-
-    // The third term, with force = k times member 2's thickness.
-    pub fn third_term(&self, planes: u64, force: u64) -> u64
-        requires { ForceWithin force (value self.now.bearing2.num) (value self.now.bearing2.den) × Parted self.now }
-        ensures { result ≡ cond (planes == 1)
-            (wedge_of (force * value self.now.bearing2.num) (value self.now.bearing2.den)
-            (share_root_of (value self.now.cross1) (value self.now.whole)))
-            (half_of (force * value self.now.bearing2.num) (value self.now.bearing2.den)) }
-    {
-        if planes == 1 {
-            let other_root = self.share_root(&self.cross1);
-            self.bearing2.wedge(force, other_root)
-        } else {
-            self.bearing2.half(force)
-        }
     }
 }
