@@ -9,7 +9,7 @@ mod tables;
 ghost use Rattle.std.specs.Prelude.{◌≤◌};
 
 use codes::Kind;
-use std::io;
+use std::{fmt, io};
 use strength::plane::{Plane, Timber};
 use strength::{capacity, moment};
 use tables::Table;
@@ -27,35 +27,37 @@ struct Tally {
     differing: usize,
 }
 
+impl fmt::Display for Tally {
+    fn fmt<W: fmt::Write>(&self, f: &mut fmt::Formatter<W>) -> fmt::Result {
+        let compared = self.compared;
+        let differing = self.differing;
+        write!(f, "compared {compared}, differing {differing}")
+    }
+}
+
 fn main(rt: HostRuntime) -> io::Result<()> {
-    write_tally(&rt, "Tables 13-5 to 13-7, cells: ", all_tables(None))?;
+    write_tally(&rt, "Tables 13-5 to 13-7, cells", all_tables(None))?;
     write_tally(
         &rt,
-        "one cell altered by one unit: ",
+        "one cell altered by one unit",
         all_tables(Some(ALTERED)),
     )?;
     write_tally(
         &rt,
-        "factors k1: ",
+        "factors k1",
         all_factors(&factors::WOOD, factors::wood_squared),
     )?;
     write_tally(
         &rt,
-        "factors k2: ",
+        "factors k2",
         all_factors(&factors::STEEL, factors::steel_squared),
     )?;
-    write_tally(
-        &rt,
-        "Example 13-1, M and capacity: ",
-        example(145930, 13445),
-    )?;
-    write_tally(&rt, "altered by one unit each: ", example(145940, 13444))
+    write_tally(&rt, "Example 13-1, M and capacity", example(145930, 13445))?;
+    write_tally(&rt, "altered by one unit each", example(145940, 13444))
 }
 
 fn write_tally(rt: &impl Print, name: &str, t: Tally) -> io::Result<()> {
-    let compared = t.compared;
-    let differing = t.differing;
-    println!(rt; "{name}compared {compared}, differing {differing}")
+    println!(rt; "{name}: {t}")
 }
 
 // The three tables, with the altered cell in Table 13-6.
