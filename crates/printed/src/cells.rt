@@ -1,7 +1,6 @@
 // A cell of the tables compared with the capacity of its shear plane: C24 and S235, kmod 0.8 and γM 1.3.
 ghost use Rattle.std.specs.Prelude.{ℕ, ◌≤◌, ◌<◌};
 ghost use Rattle.strength.specs.Shear.{MemberWithin};
-ghost use Rattle.printed.specs.Setting.{Within};
 
 use crate::tables;
 use crate::tables::Table;
@@ -34,12 +33,16 @@ pub struct Setting {
     pub member1: u64,
     pub member2: u64,
     pub planes: u64,
+    ghost diameter_low: { 10 ≤ diameter },
+    ghost diameter_high: { diameter ≤ 24 },
+    ghost member1_high: { member1 ≤ 1000000000000 },
+    ghost member2_high: { member2 ≤ 1000000000000 },
+    ghost planes_low: { 1 ≤ planes },
+    ghost planes_high: { planes ≤ 2 },
 }
 
 // The member at the angle φ is member 2 in Tables 13-5 and 13-6, and member 1 in Table 13-7; the other's angle is 0.
-fn setting_of(table: Table, group: usize) -> Setting
-    ensures { Within result }
-{
+fn setting_of(table: Table, group: usize) -> Setting {
     let d = tables::diameter(group % 5);
     let turned = tables::cos_squared(group / 5);
     match table {
@@ -79,8 +82,7 @@ fn member(diameter: u8, along: u64, thickness: u64) -> Timber
 
 // The capacity in thousandths of a newton for two thicknesses in tenths of a mm.
 fn capacity_at(s: Setting, member1: u64, member2: u64) -> u64
-    requires within { Within s }
-    requires thicknesses { (200 ≤ member1) × (member1 ≤ 4000) × (200 ≤ member2) × (member2 ≤ 4000) }
+    requires { (200 ≤ member1) × (member1 ≤ 4000) × (200 ≤ member2) × (member2 ≤ 4000) }
 {
     capacity::capacity_thousandths(Plane {
         member1: member(s.diameter, s.member1, member1),
@@ -105,8 +107,7 @@ fn rounds_to(c: u64, print: u64) -> bool
 
 // The force: c and c + 2, between which 1000 R lies, both round to the print.
 fn force_differs(s: Setting, print: u64) -> bool
-    requires within { Within s }
-    requires print_bound { print ≤ 65536 }
+    requires { print ≤ 65536 }
 {
     let c = capacity_at(s, THICK, THICK);
     BEYOND < c || !rounds_to(c, print) || !rounds_to(c + 2, print)
@@ -115,8 +116,7 @@ fn force_differs(s: Setting, print: u64) -> bool
 // A least thickness, with the capacity at a thickness of its member: half a mm above the print the first term decides, half a mm
 // below it not.
 fn thickness_differs<F: Fn(u64) -> u64>(s: Setting, print: u64, capacity_with: F) -> bool
-    requires within { Within s }
-    requires thick { (thickness : ℕ) → 200 ≤ thickness → thickness ≤ 4000 → F.pre capacity_with thickness }
+    requires { (thickness : ℕ) → 200 ≤ thickness → thickness ≤ 4000 → F.pre capacity_with thickness }
 {
     if print < 21 || 399 < print {
         return true;
