@@ -1,7 +1,6 @@
 // A cell of the tables compared with the capacity of its shear plane: C24 and S235, kmod 0.8 and γM 1.3.
-ghost use Rattle.std.specs.Prelude.{◌≤◌, ◌<◌};
+ghost use Rattle.std.specs.Prelude.{ℕ, ◌≤◌, ◌<◌};
 ghost use Rattle.strength.specs.Shear.{MemberWithin};
-ghost use Rattle.printed.specs.Setting.{Within};
 
 use crate::tables;
 use crate::tables::Table;
@@ -34,12 +33,16 @@ pub struct Setting {
     pub member1: u64,
     pub member2: u64,
     pub planes: u64,
+    ghost diameter_low: { 10 ≤ diameter },
+    ghost diameter_high: { diameter ≤ 24 },
+    ghost member1_high: { member1 ≤ 1000000000000 },
+    ghost member2_high: { member2 ≤ 1000000000000 },
+    ghost planes_low: { 1 ≤ planes },
+    ghost planes_high: { planes ≤ 2 },
 }
 
 // The member at the angle φ is member 2 in Tables 13-5 and 13-6, and member 1 in Table 13-7; the other's angle is 0.
-fn setting_of(table: Table, group: usize) -> Setting
-    ensures { Within result }
-{
+fn setting_of(table: Table, group: usize) -> Setting {
     let d = tables::diameter(group % 5);
     let turned = tables::cos_squared(group / 5);
     match table {
@@ -79,8 +82,7 @@ fn member(diameter: u8, along: u64, thickness: u64) -> Timber
 
 // The capacity in thousandths of a newton for two thicknesses in tenths of a mm.
 fn capacity_at(s: Setting, member1: u64, member2: u64) -> u64
-    requires within { Within s }
-    requires le_member1 { (200 ≤ member1) × (member1 ≤ 4000) × (200 ≤ member2) × (member2 ≤ 4000) }
+    requires { (200 ≤ member1) × (member1 ≤ 4000) × (200 ≤ member2) × (member2 ≤ 4000) }
 {
     capacity::capacity_thousandths(Plane {
         member1: member(s.diameter, s.member1, member1),
@@ -93,7 +95,7 @@ fn capacity_at(s: Setting, member1: u64, member2: u64) -> u64
 
 // Whether c thousandths of a newton round to a force in hundredths of a kN.
 fn rounds_to(c: u64, print: u64) -> bool
-    requires { print ≤ 4295 }
+    requires { print ≤ 65536 }
 {
     let exact = print * HUNDREDTH;
     if c < exact {
@@ -105,62 +107,33 @@ fn rounds_to(c: u64, print: u64) -> bool
 
 // The force: c and c + 2, between which 1000 R lies, both round to the print.
 fn force_differs(s: Setting, print: u64) -> bool
-    requires within { Within s }
-    requires print_bound { print ≤ 4295 }
+    requires { print ≤ 65536 }
 {
     let c = capacity_at(s, THICK, THICK);
-    if BEYOND < c {
-        return true;
-    }
-    if rounds_to(c, print) {
-        return !rounds_to(c + 2, print);
-    }
-    true
+    BEYOND < c || !rounds_to(c, print) || !rounds_to(c + 2, print)
 }
 
-fn with_one(s: Setting, member1: bool, thickness: u64) -> u64
-    requires within { Within s }
-    requires le_thickness { (200 ≤ thickness) × (thickness ≤ 4000) }
+// A least thickness, with the capacity at a thickness of its member: half a mm above the print the first term decides, half a mm
+// below it not.
+fn thickness_differs<F: Fn(u64) -> u64>(s: Setting, print: u64, capacity_with: F) -> bool
+    requires { (thickness : ℕ) → 200 ≤ thickness → thickness ≤ 4000 → F.pre capacity_with thickness }
 {
-    if member1 {
-        capacity_at(s, thickness, THICK)
-    } else {
-        capacity_at(s, THICK, thickness)
-    }
-}
-
-// A least thickness, of the side member or of the other: half a mm above the print the first term decides, half a mm below it not.
-fn thickness_differs(s: Setting, member1: bool, print: u64) -> bool
-    requires { Within s }
-{
-    if print < 21 {
-        return true;
-    }
-    if 399 < print {
+    if print < 21 || 399 < print {
         return true;
     }
     let first = capacity_at(s, THICK, THICK);
-    if with_one(s, member1, 10 * print + 5) != first {
-        return true;
+    capacity_with(10 * print + 5) != first || first <= capacity_with(10 * print - 5)
+}
+
+// Whether a cell differs: the force, the least thickness of the side member or that of the other.
+pub fn differs(table: Table, cell: usize, altered: Option<usize>) -> bool
+    requires { cell < 285 }
+{
+    let s = setting_of(table, cell / 3);
+    let print = tables::printed(table, cell, altered);
+    match cell % 3 {
+        0 => force_differs(s, print),
+        1 => thickness_differs(s, print, |thickness| capacity_at(s, thickness, THICK)),
+        _ => thickness_differs(s, print, |thickness| capacity_at(s, THICK, thickness)),
     }
-    first <= with_one(s, member1, 10 * print - 5)
-}
-
-fn one_if(differs: bool) -> u64
-    ensures { result ≤ 1 }
-{
-    if differs { 1 } else { 0 }
-}
-
-// How many of a group's three cells differ.
-pub fn differing(table: Table, group: usize, altered: usize) -> u64
-    requires { group < 95 }
-    ensures { result ≤ 3 }
-{
-    let s = setting_of(table, group);
-    let at = 3 * group;
-    let force = one_if(force_differs(s, tables::printed(table, at, altered)));
-    let member1 = one_if(thickness_differs(s, true, tables::printed(table, at + 1, altered)));
-    let member2 = one_if(thickness_differs(s, false, tables::printed(table, at + 2, altered)));
-    force + member1 + member2
 }

@@ -4,36 +4,11 @@ ghost use Rattle.std.specs.Prelude.{◌≤◌, ◌<◌};
 
 use strength::roots;
 
-#[derive(Clone, Copy)]
-pub enum Factor {
-    Wood,
-    Steel,
-}
+// k1 in thousandths, typed as printed: C24, C30, GL24h, GL24c, GL28h, GL28c, GL32h, GL32c.
+pub const WOOD: [u16; 8] = [1000, 1042, 1049, 1021, 1102, 1056, 1121, 1069];
 
-// k1 of a class or k2 of a steel in thousandths, typed as printed: C24, C30, GL24h, GL24c, GL28h, GL28c, GL32h, GL32c; S235, S275, S355.
-fn printed(f: Factor, code: u8) -> u64
-    ensures { result ≤ 1190 }
-{
-    match f {
-        Factor::Wood => match code {
-            1 => 1000,
-            2 => 1042,
-            3 => 1049,
-            4 => 1021,
-            5 => 1102,
-            6 => 1056,
-            7 => 1121,
-            8 => 1069,
-            _ => 0,
-        },
-        Factor::Steel => match code {
-            1 => 1000,
-            2 => 1093,
-            3 => 1190,
-            _ => 0,
-        },
-    }
-}
+// k2 in thousandths, typed as printed: S235, S275, S355.
+pub const STEEL: [u16; 3] = [1000, 1093, 1190];
 
 // A table's value, 0 where it is too large to be multiplied.
 fn small(value: u64) -> u64
@@ -42,38 +17,30 @@ fn small(value: u64) -> u64
     if value < 10000 { value } else { 0 }
 }
 
-// 4,000,000 times density/350 or fu/360: the square of twice the factor in thousandths.
-fn square_of_twice(f: Factor, code: u8) -> u64 {
-    match f {
-        Factor::Wood => 4000000 * small(codes::wood_of(code).density) / 350,
-        Factor::Steel => 4000000 * small(codes::steel_strength(code).unwrap_or(0)) / 360,
-    }
+// 4,000,000 times density/350 of a class: the square of twice k1 in thousandths.
+pub fn wood_squared(code: u8) -> u64 {
+    4000000 * small(codes::wood_of(code).density) / 350
 }
 
-// 1 where the factor does not round to its print: twice it does not lie between twice the print less 1 and twice the print plus 1.
-fn differs(f: Factor, code: u8) -> u64
-    ensures { result ≤ 1 }
-{
-    let twice = 2 * printed(f, code);
-    let r = roots::whole_square_root(square_of_twice(f, code));
-    if twice < r {
-        return 1;
-    }
-    if r + 1 < twice {
-        return 1;
-    }
-    0
+// 4,000,000 times fu/360 of a steel: the square of twice k2 in thousandths.
+pub fn steel_squared(code: u8) -> u64 {
+    4000000 * small(codes::steel_strength(code).unwrap_or(0)) / 360
 }
 
-// How many of the factors with codes 1 to last differ.
-pub fn differing(f: Factor, last: u8) -> u64
-    ensures { result ≤ last }
+// Whether a factor does not round to its print: twice it does not lie between twice the print less 1 and twice the print plus 1.
+fn differs(print: u16, square_of_twice: u64) -> bool {
+    let twice = 2 * u64::from(print);
+    let r = roots::whole_square_root(square_of_twice);
+    twice < r || r + 1 < twice
+}
+
+// How many of the factors with the codes 1, 2 and so on differ from what is printed.
+pub fn differing<F: Fn(u8) -> u64>(printed: &[u16], square_of_twice: F) -> usize
+    requires { F.IsAlwaysCallable square_of_twice }
 {
-    let mut n = 0;
-    let mut code = 0;
-    while code < last {
-        code += 1;
-        n += differs(f, code);
-    }
-    n
+    printed
+        .iter()
+        .zip(1..=255)
+        .filter(|(print, code)| differs(**print, square_of_twice(*code)))
+        .count()
 }

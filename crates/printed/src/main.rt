@@ -9,14 +9,13 @@ mod tables;
 ghost use Rattle.std.specs.Prelude.{◌≤◌};
 
 use codes::Kind;
-use factors::Factor;
-use std::io;
+use std::{fmt, io};
 use strength::plane::{Plane, Timber};
 use strength::{capacity, moment};
 use tables::Table;
 
-// No cell of a table.
-const NONE: usize = 285;
+// The cells of a table.
+const CELLS: usize = 285;
 
 // t1,req at 45° for a diameter of 10 mm.
 const ALTERED: usize = 136;
@@ -24,76 +23,77 @@ const ALTERED: usize = 136;
 // How many printed values were compared, and how many differ.
 #[derive(Clone, Copy)]
 struct Tally {
-    compared: u64,
-    differing: u64,
+    compared: usize,
+    differing: usize,
+}
+
+impl fmt::Display for Tally {
+    fn fmt<W: fmt::Write>(&self, f: &mut fmt::Formatter<W>) -> fmt::Result {
+        let compared = self.compared;
+        let differing = self.differing;
+        write!(f, "compared {compared}, differing {differing}")
+    }
 }
 
 fn main(rt: HostRuntime) -> io::Result<()> {
-    write_tally(&rt, "Tables 13-5 to 13-7, cells: ", all_tables(NONE))?;
-    write_tally(&rt, "one cell altered by one unit: ", all_tables(ALTERED))?;
-    write_tally(&rt, "factors k1: ", all_factors(Factor::Wood, 8))?;
-    write_tally(&rt, "factors k2: ", all_factors(Factor::Steel, 3))?;
+    write_tally(&rt, "Tables 13-5 to 13-7, cells", all_tables(None))?;
     write_tally(
         &rt,
-        "Example 13-1, M and capacity: ",
-        example(145930, 13445),
+        "one cell altered by one unit",
+        all_tables(Some(ALTERED)),
     )?;
-    write_tally(&rt, "altered by one unit each: ", example(145940, 13444))
+    write_tally(
+        &rt,
+        "factors k1",
+        all_factors(&factors::WOOD, factors::wood_squared),
+    )?;
+    write_tally(
+        &rt,
+        "factors k2",
+        all_factors(&factors::STEEL, factors::steel_squared),
+    )?;
+    write_tally(&rt, "Example 13-1, M and capacity", example(145930, 13445))?;
+    write_tally(&rt, "altered by one unit each", example(145940, 13444))
 }
 
 fn write_tally(rt: &impl Print, name: &str, t: Tally) -> io::Result<()> {
-    let compared = t.compared;
-    let differing = t.differing;
-    println!(rt; "{name}compared {compared}, differing {differing}")
+    println!(rt; "{name}: {t}")
 }
 
 // The three tables, with the altered cell in Table 13-6.
-fn all_tables(altered: usize) -> Tally {
-    let a = one_table(Table::Single, NONE);
-    let b = one_table(Table::MiddleTurned, altered);
-    let c = one_table(Table::SidesTurned, NONE);
+fn all_tables(altered: Option<usize>) -> Tally {
     Tally {
-        compared: a.compared + b.compared + c.compared,
-        differing: a.differing + b.differing + c.differing,
+        compared: 3 * CELLS,
+        differing: differing(Table::Single, None)
+            + differing(Table::MiddleTurned, altered)
+            + differing(Table::SidesTurned, None),
     }
 }
 
-fn one_table(table: Table, altered: usize) -> Tally
-    ensures { (result.compared ≤ 285) × (result.differing ≤ 285) }
+// How many cells of a table differ.
+fn differing(table: Table, altered: Option<usize>) -> usize
+    ensures { result ≤ 285 }
 {
-    let mut compared = 0;
-    let mut differing = 0;
-    let mut group = 0;
-    while group < 95 {
-        differing += cells::differing(table, group, altered);
-        compared += 3;
-        group += 1;
-    }
+    (0..CELLS)
+        .filter(|cell| cells::differs(table, *cell, altered))
+        .count()
+}
+
+// The factors with the codes 1, 2 and so on.
+fn all_factors<F: Fn(u8) -> u64>(printed: &[u16], square_of_twice: F) -> Tally
+    requires { F.IsAlwaysCallable square_of_twice }
+{
     Tally {
-        compared,
-        differing,
+        compared: printed.len(),
+        differing: factors::differing(printed, square_of_twice),
     }
 }
 
-// The factors with codes 1 to last.
-fn all_factors(f: Factor, last: u8) -> Tally {
-    Tally {
-        compared: last as u64,
-        differing: factors::differing(f, last),
-    }
-}
-
-// 1 where a value in thousandths is not within a unit of what is printed.
-fn off(value: u64, printed: u64, unit: u64) -> u64
+// Whether a value in thousandths is not within a unit of what is printed.
+fn off(value: u64, printed: u64, unit: u64) -> bool
     requires { (unit ≤ printed) × (printed ≤ 1000000) }
-    ensures { result ≤ 1 }
 {
-    if 1000 * (printed - unit) < value {
-        if value < 1000 * (printed + unit) {
-            return 0;
-        }
-    }
-    1
+    value <= 1000 * (printed - unit) || 1000 * (printed + unit) <= value
 }
 
 // Example 13-1: GL28h, one shear plane, d = 16 mm, S235, along the grain, 80 mm on both sides.
@@ -117,6 +117,7 @@ fn example(moment: u64, capacity: u64) -> Tally
     });
     Tally {
         compared: 2,
-        differing: off(moment::yield_moment(16, 360), moment, 10) + off(c, capacity, 1),
+        differing: usize::from(off(moment::yield_moment(16, 360), moment, 10))
+            + usize::from(off(c, capacity, 1)),
     }
 }

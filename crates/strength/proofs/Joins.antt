@@ -6,7 +6,7 @@ use Rattle.strength.specs.declared.plane.Timber.{Timber}
 use Rattle.strength.specs.declared.plane.Plane.{Plane}
 use Rattle.strength.specs.declared.terms.Joined.{Joined}
 use Rattle.strength.specs.Shear.{MemberWithin, PlaneWithin}
-use Rattle.strength.specs.Leaves.{JoinedOf, Portion, Parted, FirstWithin, ForceWithin}
+use Rattle.strength.specs.Leaves.{JoinedOf, Portion, FirstWithin, ForceWithin}
 use Rattle.strength.specs.Working.{bearing_num, bearing_den, crossed, dowel_factor, yield_moment_of, first_of, share_root_of, wedge_of, half_of, second_of, third_of, capacity_of}
 use Rattle.strength.proofs.Sizes.{
   num_bits,
@@ -46,36 +46,37 @@ module _ {p : Plane} (w : PlaneWithin p) {j : Joined} (h : JoinedOf p.member1 p.
     bound = product_bound p w;
   })
 
-  pub parted : Parted j
-  parted = record {
-    s = rw (h.cross2, h.whole) (record {
-      below = le-add_left (crossed p.member2 p.member1) (crossed p.member1 p.member2);
-      positive = sum_positive p w;
-      bits = sum_high p w;
-    });
-    c = rw (h.cross1, h.whole) (record {
-      below = le-add_right (crossed p.member1 p.member2) (crossed p.member2 p.member1);
-      positive = sum_positive p w;
-      bits = sum_high p w;
-    });
-  }
+  -- s² and c² are parts of a whole
+  pub portion_s : Portion (value j.cross2) (value j.whole)
+  portion_s = rw (h.cross2, h.whole) (record {
+    below = le-add_left (crossed p.member2 p.member1) (crossed p.member1 p.member2);
+    positive = sum_positive p w;
+    bits = sum_high p w;
+  })
 
-  pub force_1 : ForceWithin (dowel_factor p.diameter * p.member1.thickness) (value j.num1) (value j.den1)
-  force_1 = force_within p w p.member1 w.member1 (value j.num1) (value j.den1) h.first_num h.first_den
+  pub portion_c : Portion (value j.cross1) (value j.whole)
+  portion_c = rw (h.cross1, h.whole) (record {
+    below = le-add_right (crossed p.member1 p.member2) (crossed p.member2 p.member1);
+    positive = sum_positive p w;
+    bits = sum_high p w;
+  })
 
-  pub force_2 : ForceWithin (dowel_factor p.diameter * p.member2.thickness) (value j.num2) (value j.den2)
-  force_2 = force_within p w p.member2 w.member2 (value j.num2) (value j.den2) h.second_num h.second_den
+  pub force_1 : ForceWithin (dowel_factor p.diameter * p.member1.thickness) (value j.bearing1.num) (value j.bearing1.den)
+  force_1 = force_within p w p.member1 w.member1 (value j.bearing1.num) (value j.bearing1.den) h.first_num h.first_den
+
+  pub force_2 : ForceWithin (dowel_factor p.diameter * p.member2.thickness) (value j.bearing2.num) (value j.bearing2.den)
+  force_2 = force_within p w p.member2 w.member2 (value j.bearing2.num) (value j.bearing2.den) h.second_num h.second_den
 
   -- the terms are those of the definition
   pub gathered : (m a b c x : ℕ)
       → m ≡ yield_moment_of p.diameter p.steel
       → a ≡ first_of (dowel_factor p.diameter) m (value j.nums) (value j.whole)
-      → b ≡ wedge_of (dowel_factor p.diameter * p.member1.thickness * value j.num1) (value j.den1)
+      → b ≡ wedge_of (dowel_factor p.diameter * p.member1.thickness * value j.bearing1.num) (value j.bearing1.den)
       (share_root_of (value j.cross2) (value j.whole))
       → c ≡ cond (eqb p.planes 1)
-      (wedge_of (dowel_factor p.diameter * p.member2.thickness * value j.num2) (value j.den2)
+      (wedge_of (dowel_factor p.diameter * p.member2.thickness * value j.bearing2.num) (value j.bearing2.den)
       (share_root_of (value j.cross1) (value j.whole)))
-      (half_of (dowel_factor p.diameter * p.member2.thickness * value j.num2) (value j.den2))
+      (half_of (dowel_factor p.diameter * p.member2.thickness * value j.bearing2.num) (value j.bearing2.den))
       → x ≡ min (min a b) c
       → x ≡ capacity_of p
   unfolding capacity_of second_of third_of

@@ -20,10 +20,10 @@ pub record BearingOf (density k90 along total : ℕ) (b : Bearing) : Type 0 wher
 
 -- what is made of two bearings, num1/den1 and num2/den2
 pub record JoinedFrom (num1 den1 num2 den2 : ℕ) (j : Joined) : Type 0 where
-  pub first_num : value j.num1 ≡ num1
-  pub first_den : value j.den1 ≡ den1
-  pub second_num : value j.num2 ≡ num2
-  pub second_den : value j.den2 ≡ den2
+  pub first_num : value j.bearing1.num ≡ num1
+  pub first_den : value j.bearing1.den ≡ den1
+  pub second_num : value j.bearing2.num ≡ num2
+  pub second_den : value j.bearing2.den ≡ den2
   pub cross1 : value j.cross1 ≡ num1 * den2
   pub cross2 : value j.cross2 ≡ num2 * den1
   pub whole : value j.whole ≡ num1 * den2 + num2 * den1
@@ -43,11 +43,6 @@ pub record Portion (part whole : ℕ) : Type 0 where
   pub below : part ≤ whole
   pub positive : 0 < whole
   pub bits : whole < 2 ^ 147
-
--- s² and c² are such parts
-pub record Parted (j : Joined) : Type 0 where
-  pub s : Portion (value j.cross2) (value j.whole)
-  pub c : Portion (value j.cross1) (value j.whole)
 
 -- what the first term is made of: the dowel's factor k, the yield moment m, the product of the numerators, the sum
 pub record FirstWithin (k m nums whole : ℕ) : Type 0 where

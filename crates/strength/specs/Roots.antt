@@ -6,13 +6,6 @@ pub record SquareRoot (n r : ℕ) : Type 0 where
   pub low : r * r ≤ n
   pub high : n < (r + 1) * (r + 1)
 
--- the root of n is at least lo and below hi, and the square of a number below hi has 64 bits
-pub record SquareBracket (n lo hi : ℕ) : Type 0 where
-  pub apart : lo < hi
-  pub low : lo * lo ≤ n
-  pub high : n < hi * hi
-  pub top : hi ≤ 4294967296
-
 -- r is the whole fifth root of n/q: the greatest whole number whose fifth power times q is at most n
 pub record FifthRoot (n q r : ℕ) : Type 0 where
   pub low : r ^ 5 * q ≤ n

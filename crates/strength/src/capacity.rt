@@ -2,47 +2,29 @@
 ghost use Rattle.std.specs.Prelude.{◌≡◌, ◌*◌, ◌/◌, cond, ◌==◌};
 ghost use Rattle.wide.specs.Natural.{value};
 ghost use Rattle.strength.specs.Shear.{PlaneWithin};
-ghost use Rattle.strength.specs.Leaves.{FirstWithin, ForceWithin, Parted};
-ghost use Rattle.strength.specs.Working.{first_of, share_root_of, wedge_of, half_of};
+ghost use Rattle.strength.specs.Leaves.{Portion};
+ghost use Rattle.strength.specs.Working.{share_root_of, wedge_of, half_of};
 ghost use Rattle.strength.specs.Figures.{CapacityThousandths, Capacity};
 
+use crate::load::Load;
 use crate::plane::Plane;
 use crate::terms::Joined;
 use crate::{moment, terms};
 
-// The terms, with k the dowel's factor, m the yield moment, and force = k times a member's thickness.
-fn first(k: u64, m: u64, j: Joined) -> u64
-    requires { FirstWithin k m (value j.nums) (value j.whole) }
-    ensures { result ≡ first_of k m (value j.nums) (value j.whole) }
-{
-    let nums = j.nums;
-    let whole = j.whole;
-    terms::first_term(k, m, &nums, &whole)
-}
-
-fn second(force: u64, j: Joined) -> u64
-    requires { ForceWithin force (value j.num1) (value j.den1) × Parted j }
-    ensures { result ≡ wedge_of (force * value j.num1) (value j.den1) (share_root_of (value j.cross2) (value j.whole)) }
-{
-    let num = j.num1;
-    let den = j.den1;
-    let s = j.cross2;
-    let whole = j.whole;
-    let root = terms::share_root(&s, &whole);
-    terms::wedge_term(force, &num, &den, root)
-}
-
-fn third(planes: u64, force: u64, j: Joined) -> u64
-    requires { ForceWithin force (value j.num2) (value j.den2) × Parted j }
+// The third term.
+fn third(planes: u64, other: &Load, j: &Joined) -> u64
+    requires { Portion (value j.now.cross1) (value j.now.whole) }
     ensures { result ≡ cond (planes == 1)
-        (wedge_of (force * value j.num2) (value j.den2) (share_root_of (value j.cross1) (value j.whole)))
-        (half_of (force * value j.num2) (value j.den2)) }
+        (wedge_of (other.now.units * value other.now.bearing.num) (value other.now.bearing.den)
+        (share_root_of (value j.now.cross1) (value j.now.whole)))
+        (half_of (other.now.units * value other.now.bearing.num) (value other.now.bearing.den)) }
 {
-    let num = j.num2;
-    let den = j.den2;
-    let c = j.cross1;
-    let whole = j.whole;
-    terms::third_term(planes, force, &num, &den, &c, &whole)
+    if planes == 1 {
+        let other_root = j.share_root(&j.cross1);
+        other.wedge(other_root)
+    } else {
+        other.half()
+    }
 }
 
 // The capacity in whole thousandths of a newton.
@@ -50,15 +32,22 @@ pub fn capacity_thousandths(p: Plane) -> u64
     requires { PlaneWithin p }
     ensures { CapacityThousandths p result }
 {
-    let member1 = p.member1;
-    let member2 = p.member2;
     let k = 82 * (100 - p.diameter) * p.diameter;
     let m = moment::yield_moment(p.diameter, p.steel);
-    let j = terms::join(member1, member2);
-    let by_dowel = first(k, m, j);
-    let by_side = second(k * member1.thickness, j);
-    let by_other = third(p.planes, k * member2.thickness, j);
-    terms::least(terms::least(by_dowel, by_side), by_other)
+    let j = terms::join(p.member1, p.member2);
+    let side = Load {
+        units: k * p.member1.thickness,
+        bearing: j.bearing1,
+    };
+    let other = Load {
+        units: k * p.member2.thickness,
+        bearing: j.bearing2,
+    };
+    let by_dowel = j.first_term(k, m);
+    let side_root = j.share_root(&j.cross2);
+    let by_side = side.wedge(side_root);
+    let by_other = third(p.planes, &other, &j);
+    by_dowel.min(by_side).min(by_other)
 }
 
 // Rounded down: a figure rounded to nearest could lie above the exact one.

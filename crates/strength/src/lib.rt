@@ -2,6 +2,7 @@
 #![tactic(auto)]
 
 pub mod capacity;
+mod load;
 pub mod moment;
 pub mod plane;
 pub mod roots;

@@ -62,12 +62,11 @@ fn inside(lo: u64, hi: u64, hint: u64) -> u64
     requires { lo + 1 < hi }
     ensures { Inside lo hi result }
 {
-    if lo < hint {
-        if hint < hi {
-            return hint;
-        }
+    if lo < hint && hint < hi {
+        hint
+    } else {
+        lo + (hi - lo) / 2
     }
-    lo + (hi - lo) / 2
 }
 
 // The whole fifth root of n/q, known to be at least lo and below hi. The hint is tried first, then numbers that go away from it

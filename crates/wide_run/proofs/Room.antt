@@ -1,11 +1,10 @@
 -- What fits: the value of so many limbs is below their weight, and sums and products of such values fit limbs enough.
 use Prim.Native.Nat.{ℕ, zero, suc, ◌+◌, ◌-◌, ◌*◌, ◌^◌, ◌<◌, ◌≤◌}
-use mathlib.Core.Path.{◌≡◌, refl, ap, sym, ◌∙◌}
+use mathlib.Core.Path.{◌≡◌, refl, ap, ◌∙◌}
 use mathlib.Core.List.{List}
 use native.Mathlib.Nat.{mul-le-mul}
 use native.Mathlib.Omega.{arith}
-use lib.ListN.{length, take, get_or, replicate, length-replicate}
-use lib.Seq.{length-take-le}
+use lib.ListN.{length, get_or, replicate}
 use lib.Pow.{pow-add}
 use mir.Val.{Fits}
 use mir.Syntax.{w32}
@@ -17,22 +16,10 @@ use Rattle.wide.proofs.Bits.{weight_bits, fits_limbs, sum_bits, more_bits, produ
 abbrev pub Limbs : List ℕ → Type 0
 Limbs l = (i : ℕ) → Fits w32 (get_or l i 0)
 
-pub zeros : (n k : ℕ) → value (take n (replicate k 0)) ≡ 0
+pub zeros : (n : ℕ) → value (replicate n 0) ≡ 0
 unfolding value
-zeros zero k = refl
-zeros (suc n) zero = refl
-zeros (suc n) (suc k) = ap (λ (z : ℕ). 0 + 4294967296 * z) (zeros n k)
-
--- the first n of enough elements are n
-pub taken : (n : ℕ) (l : List ℕ) → n ≤ length l → n ≡ length (take n l)
-taken n l h = sym (length-take-le n l h)
-
-pub taken_within : (n : ℕ) (l : List ℕ) (m : ℕ) → n ≤ length l → n ≤ m → length (take n l) ≤ m
-taken_within n l m h e = rw (length-take-le n l h) e
-
--- an array of zeros, and the first n of it
-pub first_zeros : (n k : ℕ) → n ≤ k → (value (take n (replicate k 0)) ≡ 0) × (length {A = ℕ} (take n (replicate k 0)) ≡ n)
-first_zeros n k h = (zeros n k, length-take-le {A = ℕ} n (replicate k 0) (rw (length-replicate {A = ℕ} k 0) h))
+zeros zero = refl
+zeros (suc n) = ap (λ (z : ℕ). 0 + 4294967296 * z) (zeros n)
 
 pub below : (l : List ℕ) → Limbs l → value l < weight l
 below l h = value_below l (λ i. (h i).fits)

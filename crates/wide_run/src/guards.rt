@@ -21,5 +21,5 @@ pub fn has_short_quotient(a: &[u32], b: &[u32]) -> bool
 {
     let mut p = [0u32; 19];
     wide::multiply_add(&mut p, b, &[0, 0, 1]);
-    if wide::at_most(&p, a) { false } else { true }
+    !wide::at_most(&p, a)
 }

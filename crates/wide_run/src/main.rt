@@ -2,12 +2,13 @@
 // operation asks something of its operands, it is run only where a test shows that, and the line ends in '-' elsewhere.
 #![tactic(auto)]
 
-ghost use Rattle.std.specs.Prelude.{◌≡◌, ◌+◌, ◌<◌, ◌≤◌, length};
+ghost use Rattle.std.specs.Prelude.{◌≡◌, ◌+◌, ◌<◌, ◌≤◌, length, IfOk};
 ghost use Rattle.wide.specs.Natural.{value};
 
 mod cases;
 mod guards;
 
+use std::alloc::AllocError;
 use std::io;
 use std::io::Read;
 
@@ -15,12 +16,10 @@ use std::io::Read;
 const MOST_CASES: usize = 100000;
 
 fn main(rt: HostRuntime) -> io::Result<()> {
-    let mut left = MOST_CASES;
-    while 0 < left {
+    for _ in 0..MOST_CASES {
         if !next_case(&rt)? {
             return Ok(());
         }
-        left -= 1;
     }
     Ok(())
 }
@@ -37,82 +36,46 @@ fn next_case(rt: &HostRuntime) -> io::Result<bool> {
 
 // A case is 138 bytes: the number of limbs of a and of b, sixteen limbs of each, and a 64-bit multiplier.
 fn run_case(rt: &HostRuntime, block: &[u8; 138]) -> io::Result<()> {
-    let n = cases::count(block[0]);
-    let m = cases::count(block[1]);
     let a = cases::limbs_at(block, 2);
     let b = cases::limbs_at(block, 66);
-    read_only(rt, &a[..n], &b[..m], cases::u64_at(block, 130))?;
-    in_place(rt, a, n, &b[..m])?;
-    write_short_product(rt, cases::u64_at(block, 2), cases::u64_at(block, 130))
+    let a = &a[..cases::count(block[0])];
+    let b = &b[..cases::count(block[1])];
+    let m = cases::u64_at(block, 130);
+    read_only(rt, a, b, m)?;
+    in_place(rt, a, b)?;
+    write_short_product(rt, cases::u64_at(block, 2), m)
 }
 
-// The operations that leave a and b as they are.
-fn read_only(rt: &HostRuntime, a: &[u32], b: &[u32], m: u64) -> io::Result<()>
-    requires { (length a.now ≤ 16) × (length b.now ≤ 16) }
+// So many limbs that are 0.
+fn zeros(rt: &HostRuntime, count: usize) -> Result<Vec<u32>, AllocError>
+    ensures { IfOk result (λ v. (value v.items ≡ 0) × (length v.items ≡ count)) }
 {
+    Ok(vec![in rt.alloc(); 0u32; count]?)
+}
+
+// The operations that leave a and b as they are, those with a result of its own in limbs enough for it.
+fn read_only(rt: &HostRuntime, a: &[u32], b: &[u32], m: u64) -> io::Result<()> {
     write_from_u64(rt, m)?;
     write_at_most(rt, a, b)?;
-    sums(rt, a, b)?;
-    products(rt, a, b)?;
-    products_u64(rt, a, m)
+    write_sum(rt, &mut zeros(rt, a.len().max(b.len()) + 1)?, a, b)?;
+    write_product(rt, &mut zeros(rt, a.len() + b.len())?, a, b)?;
+    write_product_and_sum(rt, &mut zeros(rt, a.len() + b.len())?, a, b)?;
+    write_product_u64(rt, &mut zeros(rt, a.len() + 2)?, a, m)
 }
 
-fn longer(n: usize, m: usize) -> usize
-    requires { (n ≤ 16) × (m ≤ 16) }
-    ensures { (n ≤ result) × (m ≤ result) × (result ≤ 16) }
+// The operations that change their first operand, each on a copy of a.
+fn in_place(rt: &HostRuntime, a: &[u32], b: &[u32]) -> io::Result<()>
+    requires { length b.now ≤ 16 }
 {
-    if n < m { m } else { n }
-}
-
-fn sums(rt: &HostRuntime, a: &[u32], b: &[u32]) -> io::Result<()>
-    requires { (length a.now ≤ 16) × (length b.now ≤ 16) }
-{
-    let mut s = [0u32; 17];
-    let n = longer(a.len(), b.len()) + 1;
-    write_sum(rt, &mut s[..n], a, b)
-}
-
-fn products(rt: &HostRuntime, a: &[u32], b: &[u32]) -> io::Result<()>
-    requires { (length a.now ≤ 16) × (length b.now ≤ 16) }
-{
-    let n = a.len() + b.len();
-    let mut p = [0u32; 32];
-    write_product(rt, &mut p[..n], a, b)?;
-    let mut q = [0u32; 32];
-    write_product_and_sum(rt, &mut q[..n], a, b)
-}
-
-fn products_u64(rt: &HostRuntime, a: &[u32], m: u64) -> io::Result<()>
-    requires { length a.now ≤ 16 }
-{
-    let mut p = [0u32; 18];
-    let n = a.len() + 2;
-    write_product_u64(rt, &mut p[..n], a, m)
-}
-
-// The operations that change their first operand, each on its own copy of the first n limbs of a.
-fn in_place(rt: &HostRuntime, a: [u32; 16], n: usize, b: &[u32]) -> io::Result<()>
-    requires { (n ≤ 16) × (length b.now ≤ 16) × (16 ≡ length a) }
-{
-    let mut largest = [4294967295u32; 16];
-    let mut x = a;
-    write_sum_in_place(rt, &mut x[..n], b, &mut largest[..n])?;
-    let mut y = a;
-    write_difference(rt, &mut y[..n], b)?;
-    let mut z = a;
-    write_quotient(rt, &mut z[..n], b)
-}
-
-fn wider(x: u32) -> u64 {
-    x as u64
+    let mut largest = vec![in rt.alloc(); u32::MAX; a.len()]?;
+    write_sum_in_place(rt, &mut a.to_vec(rt.alloc())?, b, &mut largest)?;
+    write_difference(rt, &mut a.to_vec(rt.alloc())?, b)?;
+    write_quotient(rt, &mut a.to_vec(rt.alloc())?, b)
 }
 
 // All limbs, the highest first.
 fn write_limbs(rt: &HostRuntime, s: &[u32]) -> io::Result<()> {
-    let mut i = s.len();
-    while 0 < i {
-        i -= 1;
-        let limb = wider(s[i]);
+    for limb in s.iter().rev() {
         print!(rt; "{limb:08x}")?;
     }
     Ok(())
@@ -132,14 +95,10 @@ fn write_from_u64(rt: &HostRuntime, m: u64) -> io::Result<()> {
     write_line(rt, "from ", &wide::from_u64(m))
 }
 
-fn answer(yes: bool) -> u64 {
-    if yes { 1 } else { 0 }
-}
-
 // Whether a is at most b, and b at most a.
 fn write_at_most(rt: &HostRuntime, a: &[u32], b: &[u32]) -> io::Result<()> {
-    let below = answer(wide::at_most(a, b));
-    let above = answer(wide::at_most(b, a));
+    let below = u8::from(wide::at_most(a, b));
+    let above = u8::from(wide::at_most(b, a));
     println!(rt; "at most {below}{above}")
 }
 

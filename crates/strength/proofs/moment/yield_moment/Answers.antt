@@ -1,5 +1,5 @@
 -- The root lies between 2 and 8 times 0.3 fu d^2, and the whole root is that of the definition.
-use Rattle.std.proofs.Common.{◌≡◌, ℕ, ◌+◌, ◌*◌, ◌^◌, ◌<◌, ◌≤◌, refl, lt_of_lt_of_le, lt_irrefl, mul-le-mul, mul-le-mul_left, mul-one, arith, lit<, lit≤}
+use Rattle.std.proofs.Common.{◌≡◌, ℕ, ◌+◌, ◌*◌, ◌^◌, ◌<◌, ◌≤◌, refl, lt_of_lt_of_le, lt_irrefl, mul-le-mul, mul-one, arith, lit<, lit≤}
 use Rattle.wide.specs.Natural.{value}
 use Rattle.strength.specs.Roots.{FifthRoot, FifthBracket}
 use Rattle.strength.specs.Shear.{DowelWithin}
@@ -11,12 +11,6 @@ use Rattle.strength.proofs.Sizes.{yield_above, yield_below, yield_fits}
 use Rattle.strength.proofs.moment.yield_moment.Goals as goal
 
 module _ {d fu : ℕ} (w : DowelWithin d fu) where
-  unit_2 : 600 * fu * d ≤ 14400000
-  unit_2 = mul-le-mul (mul-le-mul_left 600 w.steel_high) w.diameter_high
-
-  unit_3 : 600 * fu * d * d ≤ 432000000
-  unit_3 = mul-le-mul unit_2 w.diameter_high
-
   bracket : (n q : ℕ) → n ≡ yield_to_the_fifth d fu → q ≡ 1 → FifthBracket n q (600 * fu * d * d) (4 * (600 * fu * d * d))
   bracket n q en eq =
       rw (en, eq) (record {

@@ -1,4 +1,5 @@
 -- What it answers true for is below the largest number of so many limbs.
+use Rattle.std.proofs.Common.{rules}
 use native.Mathlib.Omega.{arith}
 use Rattle.wide.specs.Natural.{value}
 use Rattle.wide.proofs.Tests.{test_le}
@@ -13,6 +14,6 @@ returns-then-at_most c e =
       arith,
       test_le (value c.args.b.now) (value c.subtract_from.new.rest) c.at_most-then-at_most.ensures e,
       c.subtract_from.ensures,
-      below room c.slice_known-1.given,
+      below room (search rules),
       weight_length room c.args.a.now c.requires,
     )

@@ -4,7 +4,7 @@ use Rattle.wide.proofs.Bits.{product_bits}
 use Rattle.strength.specs.Working.{first_of, square_root_of}
 use Rattle.strength.proofs.Greatest.{square_root_is}
 use Rattle.strength.proofs.Room.{room, made, divided_is}
-use Rattle.strength.proofs.terms.first_term.Goals as goal
+use Rattle.strength.proofs.terms.Joined.first_term.Goals as goal
 
 scaled : {k m : ℕ} → k ≤ 231240 → m < 2147483648 → 529 * k * m < 2 ^ 58
 scaled h g = lt_of_le_of_lt (mul-le-mul (mul-le-mul_left 529 h) (le_of_lt g)) (lit< tt)

@@ -5,7 +5,7 @@ use Rattle.wide.proofs.Bits.{product_bits}
 use Rattle.strength.specs.Working.{share_root_of, square_root_of}
 use Rattle.strength.proofs.Greatest.{square_root_is}
 use Rattle.strength.proofs.Room.{room, made, divided_is}
-use Rattle.strength.proofs.terms.share_root.Goals as goal
+use Rattle.strength.proofs.terms.Joined.share_root.Goals as goal
 
 bound : (x part whole : ℕ) → x ≡ part * 1152921504606846976 → part ≤ whole → 0 < whole → x < 18446744073709551616 * whole
 bound x part whole e h p = omega arith
@@ -23,5 +23,5 @@ unfolding share_root_of
 returns c = square_root_is _ _ c.quotient.type_inv c.whole_square_root.ensures
     ∙ ap square_root_of
     (divided_is c.quotient.ensures
-    ∙ ap (λ (z : ℕ). z / value c.args.whole.now)
+    ∙ ap (λ (z : ℕ). z / value c.args.self.now.whole)
     (made _ tt c.multiply_add_u64.ensures ∙ mul_comm _ _))

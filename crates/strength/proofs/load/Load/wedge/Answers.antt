@@ -3,7 +3,7 @@ use Rattle.std.proofs.Common.{◌≡◌, ℕ, ◌+◌, ◌*◌, ◌/◌, ◌^◌
 use Rattle.wide.proofs.Bits.{product_bits}
 use Rattle.strength.specs.Working.{wedge_of}
 use Rattle.strength.proofs.Room.{room, made, divided_is}
-use Rattle.strength.proofs.terms.wedge_term.Goals as goal
+use Rattle.strength.proofs.load.Load.wedge.Goals as goal
 
 below : (force num den root a b : ℕ) → a ≡ num * (force * root) → b ≡ den * (1073741824 + root) → 0 < den → force * num ≤ 1073741824 * den
     → a < 18446744073709551616 * b
@@ -17,14 +17,14 @@ scaled : {force root : ℕ} → force ≤ 924960000 → root ≤ 1073741824 → 
 scaled h g = lt_of_le_of_lt (mul-le-mul h g) (lit< tt)
 
 pub multiply_add_u64-requires : goal.multiply_add_u64-requires
-multiply_add_u64-requires c = room _ 133 tt (product_bits 73 60 c.requires.force_within.num_bits (scaled c.requires.force_within.factor c.requires.root_bound)) tt
+multiply_add_u64-requires c = room _ 133 tt (product_bits 73 60 c.args.self.now.within.num_bits (scaled c.args.self.now.within.factor c.requires)) tt
 
 pub multiply_add_u64-requires-2 : goal.multiply_add_u64-requires-2
-multiply_add_u64-requires-2 c = room _ 105 tt (product_bits 73 32 c.requires.force_within.den_bits (omega (arith, c.requires.root_bound))) tt
+multiply_add_u64-requires-2 c = room _ 105 tt (product_bits 73 32 c.args.self.now.within.den_bits (omega (arith, c.requires))) tt
 
 pub quotient-requires : goal.quotient-requires
-quotient-requires c = below _ _ _ _ _ _ (made _ tt c.multiply_add_u64.ensures) (made _ tt c.multiply_add_u64-2.ensures) c.requires.force_within.positive
-    c.requires.force_within.bound
+quotient-requires c = below _ _ _ _ _ _ (made _ tt c.multiply_add_u64.ensures) (made _ tt c.multiply_add_u64-2.ensures) c.args.self.now.within.positive
+    c.args.self.now.within.bound
 
 pub returns : goal.returns
 returns c = divided_is c.quotient.ensures

@@ -1,2 +1,0 @@
--- What the contracts of `printed` speak of.
-pub mod Setting
