@@ -84,7 +84,7 @@ fn pair_fault(member: Which, v: &View, d: u64, count: usize) -> Result<(), Fault
     requires { Given d v.now.frame.force v.now.frame.sideways count }
     ensures { told result ≡ pair_fault (number_of member) v.now.frame d v.now.along v.now.across count }
 {
-    match scan::first_close(&v.along, &v.across, count, limit::of_pairs(v.frame, d)) {
+    match scan::first_close(v, count, limit::of_pairs(v.frame, d)) {
         None => Ok(()),
         Some((i, j)) => Err(Fault::DowelsTooClose {
             member,

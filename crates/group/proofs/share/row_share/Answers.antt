@@ -3,8 +3,6 @@ use borrow.Author.Tests.{leb-true, leb-false}
 use mathlib.Core.Path.{sym, ◌∙◌}
 use native.Mathlib.Omega.{arith}
 use lib.Dec.{lit≤}
-use Rattle.strength.specs.Roots.{FactorWithin}
-use Rattle.wide.specs.Natural.{value}
 use Rattle.group.proofs.Shares.{factor_within, row_tested, greatest_here, row_floor}
 use Rattle.group.proofs.share.row_share.Goals as goal
 
