@@ -1,6 +1,6 @@
 -- What a pass over dowels in their order along has seen: how many pass a test, and the least distance of two of them.
 use Prim.Native.Nat.{ℕ, zero, suc, ◌+◌, ◌≤◌, ◌<◌, min}
-use mathlib.Core.Path.{◌≡◌, refl, sym, ap, ◌∙◌}
+use mathlib.Core.Path.{◌≡◌, refl, sym, ap, ap₂, ◌∙◌}
 use mathlib.Core.Bool.{Bool, true, false, cond, true≢false}
 use mathlib.Core.List.{List}
 use native.Mathlib.Nat.{lt_of_not-le, le_antisymm}
@@ -8,24 +8,46 @@ use native.Mathlib.Decide.{dec_lt}
 use native.Mathlib.Numerals.{add-one}
 use native.Mathlib.Omega.{arith}
 use lib.Dec.{eqb}
-use lib.IntN.{ℤ, pos, nat_abs, ◌-ℤ◌}
-use borrow.Author.Tests.{eqb-true, eqb-false}
+use lib.IntN.{ℤ, nat_abs, ◌-ℤ◌}
+use borrow.Author.Tests.{eqb-true, eqb-false, eq-eqb, ne_eqb}
+use Rattle.std.specs.Prelude.{Option, None, Some}
 use Rattle.spacing.specs.Spacing.{place, distance}
 use Rattle.spacing.proofs.Search.{pick_at_most}
 use Rattle.group.specs.Rows.{count_to}
 use Rattle.group.specs.Listing.{Rising}
-use Rattle.group.specs.Share.{least_to, closest_to, farthest, gap_on, seen_on, seen_to}
+use Rattle.group.specs.Share.{least_to, closest_to, farthest, gap_on, seen_on, seen_to, longer, Kept}
+use Rattle.group.specs.declared.rows.Row.{Row}
 use Rattle.group.proofs.Line.{farther}
 use Rattle.group.proofs.Counting.{count_some, least_bound, least_below, least_from, closest_bound}
 
 -- ---- the pass
-pub seen_none : (test : ℕ → Bool) (a : List ℤ) → record { number = 0; least = farthest; last = pos 0 } ≡ seen_to test a 0
-unfolding seen_to
-seen_none test a = refl
-
-pub seen_next : (test : ℕ → Bool) (a : List ℤ) (k : ℕ) → seen_to test a (k + 1) ≡ seen_on (seen_to test a k) (test k) (place a k)
+seen_next : (test : ℕ → Bool) (a : List ℤ) (k : ℕ) → seen_to test a (k + 1) ≡ seen_on (seen_to test a k) (test k) (place a k)
 unfolding seen_to
 seen_next test a k = ap (seen_to test a) (add-one k)
+
+-- what the code keeps of it
+pub kept_none : (test : ℕ → Bool) (a : List ℤ) → Kept (record { number = 0; least = farthest }) None (seen_to test a 0)
+unfolding seen_to
+kept_none test a = record { number = refl; least = refl; last = refl }
+
+pub kept_passed :
+    (test : ℕ → Bool) (a : List ℤ) (k : ℕ) {row : Row} {at : Option ℤ} → test k ≡ false → Kept row at (seen_to test a k) →
+    Kept row at (seen_to test a (k + 1))
+kept_passed test a k f h = rw (seen_next, f) h
+
+pub kept_longer :
+    (test : ℕ → Bool) (a : List ℤ) (k : ℕ) {row : Row} (at : Option ℤ) → test k ≡ true → Kept row at (seen_to test a k) →
+    Kept (longer row at (place a k)) (Some (place a k)) (seen_to test a (k + 1))
+kept_longer test a k None t h =
+    rw (seen_next, t, eq-eqb (seen_to test a k).number 0 h.last)
+    (record { number = ap (λ n. n + 1) h.number; least = h.least; last = (omega arith, refl) })
+kept_longer test a k (Some z) t h =
+    rw (seen_next, t, ne_eqb (seen_to test a k).number 0 (λ e. omega (arith, h.last.0)))
+    (record {
+      number = ap (λ n. n + 1) h.number;
+      least = ap₂ (λ m y. min m (nat_abs (place a k -ℤ y))) h.least h.last.1;
+      last = (omega arith, refl);
+    })
 
 -- it counts
 pub seen_count : (test : ℕ → Bool) (a : List ℤ) (k : ℕ) → (seen_to test a k).number ≡ count_to test k

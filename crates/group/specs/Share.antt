@@ -1,13 +1,11 @@
 -- Which share is returned: the exact floor. Nobody needs to believe this: the bracket in Rows is the claim.
-use Rattle.std.specs.Prelude.{ℕ, zero, suc, ◌+◌, ◌-◌, ◌*◌, ◌^◌, ◌≤◌, ◌<◌, min, ◌≡◌, Bool, true, cond, not, ◌&&◌, List, leb, ltb, eqb, ℤ, pos, nat_abs, ◌-ℤ◌}
+use Rattle.std.specs.Prelude.{ℕ, zero, suc, ◌+◌, ◌-◌, ◌*◌, ◌^◌, ◌≤◌, ◌<◌, min, ◌≡◌, Bool, true, cond, not, ◌&&◌, List, leb, ltb, eqb, ℤ, pos, nat_abs, ◌-ℤ◌, Option, None, Some, MatchOption}
 use Rattle.std.specs.Int.Signed.{le_z}
-use Rattle.strength.specs.Roots.{FactorWithin}
 use Rattle.spacing.specs.declared.view.Piece.{Piece}
 use Rattle.spacing.specs.Spacing.{along, across, place, distance}
 use Rattle.group.specs.declared.rows.Row.{Row}
 use Rattle.group.specs.declared.member.Taken.{Taken}
 use Rattle.group.specs.declared.member.Both.{Both}
-use Rattle.group.specs.declared.rows.Seen.{Seen}
 use Rattle.group.specs.Rows.{reach_of, count_to, OfRow, MemberBracket}
 
 -- ---- the windows
@@ -85,6 +83,11 @@ pub record BothTaken (m₁ m₂ : Piece) (d : ℕ) (fx fy : ℤ) (x y : List ℤ
 -- ---- what the parts answer
 -- a pass over the dowels in the order of a list: how many of them passed a test, the least distance along from one to the next, where the
 -- last of them lies
+pub record Seen : Type 0 where
+  pub number : ℕ
+  pub least : ℕ
+  pub last : ℤ
+
 abbrev pub gap_on : Seen → ℤ → ℕ
 gap_on s at = cond (eqb s.number 0) s.least (min s.least (nat_abs (at -ℤ s.last)))
 
@@ -95,6 +98,16 @@ seen_on s inside at =
 unfoldable pub seen_to : (ℕ → Bool) → List ℤ → ℕ → Seen
 seen_to test a zero = record { number = 0; least = farthest; last = pos 0 }
 seen_to test a (suc k) = seen_on (seen_to test a k) (test k) (place a k)
+
+-- what the code keeps of such a pass: a row, and where the last dowel of it lies, if it has one
+abbrev pub longer : Row → Option ℤ → ℤ → Row
+longer row None at = record { number = row.number + 1; least = row.least }
+longer row (Some z) at = record { number = row.number + 1; least = min row.least (nat_abs (at -ℤ z)) }
+
+pub record Kept (row : Row) (at : Option ℤ) (s : Seen) : Type 0 where
+  pub number : row.number ≡ s.number
+  pub least : row.least ≡ s.least
+  pub last : MatchOption at (s.number ≡ 0) (λ z. (1 ≤ s.number) × (z ≡ s.last))
 
 -- what such a pass over a window makes of it
 abbrev pub window_seen : List ℤ → List ℤ → ℕ → ℕ → ℤ → Row
@@ -125,14 +138,7 @@ pub record WorstOf (reach : ℕ) (a b : List ℤ) (count : ℕ) (starts : List �
       (d e : ℕ) → d ≤ 30 → e ≤ 10000 →
       row_passes d r.number r.least e ≡ seen_pass d reach a b count starts k e
 
--- the greatest e with e^20 q ≤ n is at least lo and below hi
-pub record BetweenShares (q n lo hi : ℕ) : Type 0 where
-  pub apart : lo < hi
-  pub top : hi ≤ 10000
-  pub low : (lo ^ 4) ^ 5 * q ≤ n
-  pub high : n < (hi ^ 4) ^ 5 * q
-  pub factor : FactorWithin q
-
+-- r is the greatest e with e^20 q ≤ n
 pub record GreatestShare (q n lo hi r : ℕ) : Type 0 where
   pub from : lo ≤ r
   pub below : r < hi

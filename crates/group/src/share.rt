@@ -7,8 +7,6 @@ ghost use Rattle.group.specs.Share.{
   farthest,
   units,
   RowHolds,
-  BetweenShares,
-  GreatestShare,
   greatest_to,
   row_passes,
   Decides,
@@ -17,8 +15,8 @@ ghost use Rattle.group.specs.Share.{
   MemberShared,
 };
 
-use crate::rows::Row;
-use crate::{order, rows};
+use crate::order::{self, Listed};
+use crate::rows::{self, Row};
 use strength::roots;
 
 // Ten-thousandths of the whole.
@@ -61,23 +59,6 @@ fn passes(e: u64, q: &[u32], n: &[u32]) -> bool
     roots::fifth_power_at_most(square * square, q, n)
 }
 
-// The greatest e with e^20 q at most n, known to be at least lo and below hi.
-fn greatest_between(q: &[u32], n: &[u32], lo: u64, hi: u64) -> u64
-    requires { BetweenShares (value q.now) (value n.now) lo hi }
-    ensures { GreatestShare (value q.now) (value n.now) lo hi result }
-{
-    let width = hi - lo;
-    if width <= 1 {
-        return lo;
-    }
-    let mid = lo + width / 2;
-    if passes(mid, q, n) {
-        greatest_between(q, n, mid, hi)
-    } else {
-        greatest_between(q, n, lo, mid)
-    }
-}
-
 // The greatest share that a row passes.
 fn row_share(d: u64, row: Row) -> u64
     requires { (d ≤ 30) × RowHolds row }
@@ -85,10 +66,14 @@ fn row_share(d: u64, row: Row) -> u64
 {
     let q = product(row.number, REFERENCE * d);
     let n = scaled(row.least);
-    if passes(WHOLE, &q, &n) {
+    let passed = |e: u64|
+        requires { (e ≤ 10000) × FactorWithin (value q) }
+        ensures { result ≡ leb ((e ^ 4) ^ 5 * value q) (value n) }
+    { passes(e, &q, &n) };
+    if passed(WHOLE) {
         return WHOLE;
     }
-    greatest_between(&q, &n, 0, WHOLE)
+    roots::greatest_between(0, WHOLE, &passed)
 }
 
 // Of two rows the one that passes fewer shares: the greater number² / least^5. A row no longer and no closer needs no powers.
@@ -96,10 +81,8 @@ fn deciding(worst: Row, row: Row) -> Row
     requires { (1 ≤ worst.number) × RowHolds worst × RowHolds row }
     ensures { Decides worst row result }
 {
-    if row.number <= worst.number {
-        if worst.least <= row.least {
-            return worst;
-        }
+    if row.number <= worst.number && worst.least <= row.least {
+        return worst;
     }
     let there = product(row.number, worst.least);
     let here = product(worst.number, row.least);
@@ -114,27 +97,22 @@ fn same_start(starts: &[i32; 64], i: usize) -> bool
     requires { i < 64 }
     ensures { result ≡ same_start starts.now i }
 {
-    if i == 0 {
-        return false;
-    }
-    starts[i - 1].abs_diff(starts[i]) == 0
+    i > 0 && starts[i - 1] == starts[i]
 }
 
 // Of the windows from each of `starts` upwards the one that passes the fewest shares.
-fn worst_window(a: &[i32; 64], b: &[i32; 64], starts: &[i32; 64], count: usize, reach: u64) -> Row
+fn worst_window(listed: &Listed, starts: &[i32; 64], count: usize, reach: u64) -> Row
     requires { count ≤ 64 }
-    ensures { WorstOf reach a.now b.now count starts.now count result }
+    ensures { WorstOf reach listed.now.along listed.now.across count starts.now count result }
 {
     let mut worst = Row {
         number: 1,
         least: rows::FARTHEST,
     };
-    let mut i = 0;
-    while i < count {
+    for i in 0..count {
         if !same_start(starts, i) {
-            worst = deciding(worst, rows::window_from(a, b, count, starts[i], reach));
+            worst = deciding(worst, rows::window_from(listed, count, starts[i], reach));
         }
-        i += 1;
     }
     worst
 }
@@ -144,8 +122,12 @@ pub fn member_share(d: u64, reach: u64, a: [i32; 64], b: [i32; 64], count: usize
     requires { RowsGiven d reach count }
     ensures { MemberShared d reach a b count result }
 {
-    let listed = order::in_order(a, b, count);
-    let along = listed.along;
-    let across = listed.across;
-    row_share(d, worst_window(&along, &across, &b, count, reach))
+    let listed = order::in_order(
+        Listed {
+            along: a,
+            across: b,
+        },
+        count,
+    );
+    row_share(d, worst_window(&listed, &b, count, reach))
 }

@@ -1,18 +1,18 @@
 -- A whole number decides each irrational limit of Table 8.
 use mathlib.Core.Path.{◌≡◌, refl, sym, ap, ◌∙◌}
-use mathlib.Core.Bool.{true, false, not, ◌&&◌, and-false}
-use Prim.Native.Nat.{ℕ, zero, suc, ◌+◌, ◌-◌, ◌*◌, ◌/◌, ◌^◌, ◌≤◌, ◌<◌, max}
-use native.Mathlib.Nat.{lt_of_not-le, not-le_of_lt, mul-le-mul, mul-le-mul_right, mul-le-mul_left, div-add-mod', mod-lt, div-le_self, le_trans}
+use mathlib.Core.Bool.{true, false, ◌&&◌, and-false}
+use Prim.Native.Nat.{ℕ, zero, suc, ◌+◌, ◌-◌, ◌*◌, ◌/◌, ◌≤◌, ◌<◌, max}
+use native.Mathlib.Nat.{lt_of_not-le, not-le_of_lt, mul-le-mul, mul-le-mul_right, mul-le-mul_left, div-add-mod', mod-lt, le_trans}
 use native.Mathlib.Decide.{dec_le}
 use native.Mathlib.Omega.{arith}
-use borrow.Author.Tests.{le-leb, lt-leb, le-ltb, lt-ltb, leb-true}
-use lib.Dec.{leb, ltb, leb-zero}
-use lib.IntN.{ℤ, pos, negsuc, nat_abs, ◌-ℤ◌}
+use borrow.Author.Tests.{le-leb, lt-leb, leb-true}
+use lib.Dec.{leb, leb-zero}
+use lib.IntN.{ℤ, pos, negsuc, nat_abs}
 use lib.Signed.{le_z}
 use Rattle.wide.proofs.Tests.{same_test}
 use Rattle.strength.specs.Roots.{SquareRoot}
 use Rattle.spacing.specs.Spacing.{along_enough, end_passes, square, Components}
-use Rattle.spacing.specs.Limits.{Scale, LeastPart, PairLimit, EndLimit, nearer_by, near_limit}
+use Rattle.spacing.specs.Limits.{LeastPart, PairLimit, EndLimit}
 
 module _ (w total q r : ℕ) (force : 0 < total) (root : SquareRoot q r) (low : q * total ≤ w) (high : w < (q + 1) * total) where
   passes : (e : ℕ) → r + 1 ≤ e → suc w ≤ e * e * total
@@ -52,10 +52,6 @@ pub least_part_bound : {k part total r : ℕ} → LeastPart k part total r → p
 least_part_bound {k} {part} {total} {r} l h =
     leb-true r k (sym (l.decides k) ∙ le-leb _ _ (mul-le-mul_left (k * k) h))
 
--- a whole root is at most its number
-pub root_small : (w total r : ℕ) → SquareRoot (w / total) r → r ≤ w
-root_small w total r s = le_trans (le_trans (below_square r) s.low) (div-le_self w total)
-
 -- the squares of the components of a force
 pub record Squares (f g : ℤ) : Type 0 where
   pub x_small : square f ≤ 1000000000000
@@ -68,10 +64,6 @@ squares {d} {f} {g} h = record {
   y_small = mul-le-mul h.y_small h.y_small;
   some = omega (arith, h.some, below_square (nat_abs f), below_square (nat_abs g));
 }
-
-pub scale_fits : {k part total : ℕ} → Scale k part total → k * k * part < 2 ^ 63
-scale_fits {k} {part} {total} s =
-    omega (arith, mul-le-mul (mul-le-mul s.factor s.factor) (le_trans s.most s.small))
 
 -- ---- limits
 both : (A r a : ℕ) → leb A a && leb r (a - A) ≡ leb (A + r) a
@@ -111,23 +103,3 @@ other_decides k part total r A l (negsuc n) = and-false (leb (k * k * part) (squ
 pub other_limit : (d part total r : ℕ) → LeastPart (70 * d) part total r → EndLimit false d part total (max r (30 * d))
 unfolding end_passes
 other_limit d part total r l = record { decides = other_decides (70 * d) part total r (30 * d) l }
-
--- ---- what a turn of a search tests
-not_leb : (a b : ℕ) → not (leb b a) ≡ ltb a b
-not_leb a b = go (dec_le b a)
-  where
-    go : Dec (b ≤ a) → not (leb b a) ≡ ltb a b
-    go (yes p) = rw (le-leb b a p) (sym (le-ltb a b p))
-    go (no p) = rw (lt-leb b a (lt_of_not-le p)) (sym (lt-ltb a b (lt_of_not-le p)))
-
-pub nearer_along : (along across a b : ℕ) → a < along → ltb b across ≡ nearer_by along across a b
-nearer_along along across a b h = rw (lt-leb along a h) (sym (not_leb b across))
-
-pub far_along : (along across a b : ℕ) → along ≤ a → false ≡ nearer_by along across a b
-far_along along across a b h = rw (le-leb along a h)
-
-pub near_high : (low high z : ℤ) (under over : ℕ) → le_z (pos under) (z -ℤ low) ≡ true → not (le_z (pos over) (high -ℤ z)) ≡ near_limit low high under over z
-near_high low high z under over h = rw h
-
-pub near_low : (low high z : ℤ) (under over : ℕ) → le_z (pos under) (z -ℤ low) ≡ false → true ≡ near_limit low high under over z
-near_low low high z under over h = rw h

@@ -1,7 +1,7 @@
 -- Laws of the search for the first index and the first pair.
 use mathlib.Core.Path.{◌≡◌, refl, sym, ◌∙◌}
 use mathlib.Core.Bool.{Bool, true, false, cond, true≢false}
-use Prim.Native.Nat.{ℕ, zero, suc, ◌+◌, ◌-◌, ◌≤◌, ◌<◌}
+use Prim.Native.Nat.{ℕ, zero, suc, ◌+◌, ◌≤◌, ◌<◌}
 use native.Mathlib.Nat.{lt_of_not-le, le_of_lt}
 use native.Mathlib.Decide.{dec_le}
 use native.Mathlib.Omega.{arith}
@@ -101,14 +101,3 @@ none_is pair n b = first_is (has_partner pair n) 0 n n None (omega arith) (λ k 
 pub pick_at_most : (b : Bool) (x y n : ℕ) → x ≤ n → y ≤ n → cond b x y ≤ n
 pick_at_most true x y n p q = p
 pick_at_most false x y n p q = q
-
--- The answer lies from k to the end.
-pub first_bound : (test : ℕ → Bool) (k left : ℕ) → first_from test k left ≤ k + left
-unfolding first_from
-first_bound test k zero = omega arith
-first_bound test k (suc left) = pick_at_most (test k) _ _ _ (omega arith) (omega (arith, first_bound test (k + 1) left))
-
--- the partner of i lies among n, or there is none
-pub partner_bound : (pair : ℕ → ℕ → Bool) (n i j : ℕ) → j ≡ partner pair n i → i < n → j ≤ n
-unfolding partner
-partner_bound pair n i j e h = rw e (omega (arith, first_bound (pair i) (i + 1) (n - (i + 1))))

@@ -4,6 +4,5 @@
 pub mod force;
 mod limit;
 mod scan;
-mod signed;
 pub mod verdict;
 pub mod view;

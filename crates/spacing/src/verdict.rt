@@ -79,57 +79,75 @@ impl Fault {
     }
 }
 
-// Refusal 10: two dowels too close.
-fn pair_fault(member: Which, v: &View, d: u64, count: usize) -> Result<(), Fault>
-    requires { Given d v.now.frame.force v.now.frame.sideways count }
-    ensures { told result ≡ pair_fault (number_of member) v.now.frame d v.now.along v.now.across count }
-{
-    match scan::first_close(&v.along, &v.across, count, limit::of_pairs(v.frame, d)) {
-        None => Ok(()),
-        Some((i, j)) => Err(Fault::DowelsTooClose {
-            member,
-            first: (i + 1) as u8,
-            second: (j + 1) as u8,
-        }),
-    }
+// A member as the searches take it: what it measures, and the diameter and the number of the dowels.
+#[derive(Clone, Copy)]
+struct Measured {
+    member: Which,
+    view: View,
+    diameter: u64,
+    count: usize,
+    ghost given: { Given diameter view.frame.force view.frame.sideways count },
 }
 
-// Refusal 11: an end too near.
-fn end_fault(member: Which, v: &View, d: u64, count: usize) -> Result<(), Fault>
-    requires { Given d v.now.frame.force v.now.frame.sideways count }
-    ensures { told result ≡ end_fault (number_of member) v.now.frame d v.now.along count }
-{
-    match scan::first_outside(&v.along, count, limit::of_ends(v.frame, d)) {
-        None => Ok(()),
-        Some(i) => Err(Fault::EndTooNear {
-            member,
-            dowel: (i + 1) as u8,
-        }),
+impl Measured {
+    // Refusal 10: two dowels too close.
+    fn pair_fault(&self) -> Result<(), Fault>
+        ensures { let m = self.now in told result ≡ pair_fault (number_of m.member) m.view.frame m.diameter m.view.along m.view.across m.count }
+    {
+        let least = limit::of_pairs(self.view.frame, self.diameter);
+        match scan::first_close(&self.view, self.count, least) {
+            None => Ok(()),
+            Some((i, j)) => Err(Fault::DowelsTooClose {
+                member: self.member,
+                first: (i + 1) as u8,
+                second: (j + 1) as u8,
+            }),
+        }
     }
-}
 
-// Refusal 12: an edge too near.
-fn edge_fault(member: Which, v: &View, d: u64, count: usize) -> Result<(), Fault>
-    requires { Given d v.now.frame.force v.now.frame.sideways count }
-    ensures { told result ≡ edge_fault (number_of member) v.now.frame d v.now.across count }
-{
-    match scan::first_outside(&v.across, count, limit::of_edges(v.frame, d)) {
-        None => Ok(()),
-        Some(i) => Err(Fault::EdgeTooNear {
-            member,
-            dowel: (i + 1) as u8,
-        }),
+    // Refusal 11: an end too near.
+    fn end_fault(&self) -> Result<(), Fault>
+        ensures { let m = self.now in told result ≡ end_fault (number_of m.member) m.view.frame m.diameter m.view.along m.count }
+    {
+        let ends = limit::of_ends(self.view.frame, self.diameter);
+        match scan::first_outside(&self.view.along, self.count, ends) {
+            None => Ok(()),
+            Some(i) => Err(Fault::EndTooNear {
+                member: self.member,
+                dowel: (i + 1) as u8,
+            }),
+        }
+    }
+
+    // Refusal 12: an edge too near.
+    fn edge_fault(&self) -> Result<(), Fault>
+        ensures { let m = self.now in told result ≡ edge_fault (number_of m.member) m.view.frame m.diameter m.view.across m.count }
+    {
+        let edges = limit::of_edges(self.view.frame, self.diameter);
+        match scan::first_outside(&self.view.across, self.count, edges) {
+            None => Ok(()),
+            Some(i) => Err(Fault::EdgeTooNear {
+                member: self.member,
+                dowel: (i + 1) as u8,
+            }),
+        }
     }
 }
 
 // The verdict of a member by what it measures: the first fault in the order 10, 11, 12.
-pub fn member_verdict(member: Which, v: View, d: u64, count: usize) -> Result<(), Fault>
-    requires { Given d v.frame.force v.frame.sideways count }
-    ensures { told result ≡ verdict_in (number_of member) v.frame d v.along v.across count }
+pub fn member_verdict(member: Which, view: View, d: u64, count: usize) -> Result<(), Fault>
+    requires { Given d view.frame.force view.frame.sideways count }
+    ensures { told result ≡ verdict_in (number_of member) view.frame d view.along view.across count }
 {
-    pair_fault(member, &v, d, count)?;
-    end_fault(member, &v, d, count)?;
-    edge_fault(member, &v, d, count)
+    let measured = Measured {
+        member,
+        view,
+        diameter: d,
+        count,
+    };
+    measured.pair_fault()?;
+    measured.end_fault()?;
+    measured.edge_fault()
 }
 
 // The verdict of a member by its view.

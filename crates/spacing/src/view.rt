@@ -10,7 +10,7 @@ pub enum Which {
     Member2,
 }
 
-// A member's grain (0 along x, 1 along y) and outline, in tenths.
+// A member's grain (0 along x, 1 along y) and outline, in tenths. The grain stays a u8, since an enum would ask more of callers.
 #[derive(Clone, Copy)]
 pub struct Piece {
     pub grain: u8,

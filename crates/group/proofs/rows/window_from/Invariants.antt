@@ -1,10 +1,6 @@
-use mathlib.Core.Path.{◌≡◌}
-use Prim.Native.Nat.{◌≤◌, ◌-◌}
-use Rattle.group.specs.Share.{in_window, seen_to}
+use Rattle.group.specs.Share.{in_window, seen_to, Kept}
 use Rattle.group.proofs.rows.window_from.Given as goal
 
+-- what is kept is that of the pass over the dowels so far
 abbrev pub invariant-loop-j : goal.invariant-loop-j
-invariant-loop-j l = (l.j ≤ l.count) × (l.seen ≡ seen_to (in_window l.b l.reach l.from) l.a l.j)
-
-abbrev pub decreases-loop-j : goal.decreases-loop-j
-decreases-loop-j l = l.count - l.j
+invariant-loop-j l = Kept l.row l.last (seen_to (in_window l.listed.across l.reach l.from) l.listed.along l.j)

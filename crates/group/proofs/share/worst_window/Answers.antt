@@ -62,35 +62,30 @@ module _ (reach : ℕ) (a b : List ℤ) (count : ℕ) (starts : List ℤ) (i : �
 
 pub loop-i-init : goal.loop-i-init
 unfolding all_to
-loop-i-init c = (
-  omega arith,
-  record {
-    some = lit≤ tt;
-    within = record { most = lit≤ tt; far = lit≤ tt };
-    passes = λ d e thick h. far_passes d 1 e thick (lit≤ tt) h;
-  },
-)
+loop-i-init c = record {
+  some = lit≤ tt;
+  within = record { most = lit≤ tt; far = lit≤ tt };
+  passes = λ d e thick h. far_passes d 1 e thick (lit≤ tt) h;
+}
 
 pub deciding-worst-requires : goal.deciding-worst-requires
 deciding-worst-requires c = let k = c.args in
-    let w = c.loop-i.invariant.1 in
+    let w = c.loop-i.invariant in
     let from = to_z w32 (of_z w32 (place k.starts.now c.loop-i.i)) in
-    (w.some, w.within, rw c.window_from.ensures (seen_holds k.a.now k.b.now k.count k.reach from c.requires))
+    (w.some, w.within, rw c.window_from.ensures (seen_holds k.listed.now.along k.listed.now.across k.count k.reach from c.requires))
 
 pub loop-i-preserved : goal.loop-i-preserved
 loop-i-preserved c = let k = c.args in
     let i = c.loop-i.i in
-    let w = c.loop-i.invariant.1 in (
-      omega arith,
-      elim c.if-not-same_start.branch [
-        | then-not-same_start s ↦
-            let start : SFits w32 (place k.starts.now i) = search rules in
-            rw s.worst-is
-            (one_more k.reach k.a.now k.b.now k.count k.starts.now i c.loop-i.worst w _
-            (rw (s.window_from.ensures, to_z-of_z start) at s.deciding-worst.ensures))
-        | else-not-same_start s ↦
-            rw s.worst-is
-            (once_more k.reach k.a.now k.b.now k.count k.starts.now i c.loop-i.worst w
-            (sym c.same_start.ensures ∙ s.if-not-same_start.false))
-      ],
-    )
+    let w = c.loop-i.invariant in
+    elim c.if-not-same_start.branch [
+      | then-not-same_start s ↦
+          let start : SFits w32 (place k.starts.now i) = search rules in
+          rw s.worst-is
+          (one_more k.reach k.listed.now.along k.listed.now.across k.count k.starts.now i c.loop-i.worst w _
+          (rw (s.window_from.ensures, to_z-of_z start) at s.deciding-worst.ensures))
+      | else-not-same_start s ↦
+          rw s.worst-is
+          (once_more k.reach k.listed.now.along k.listed.now.across k.count k.starts.now i c.loop-i.worst w
+          (sym c.same_start.ensures ∙ s.if-not-same_start.false))
+    ]

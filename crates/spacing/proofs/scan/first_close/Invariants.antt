@@ -7,4 +7,4 @@ use Rattle.spacing.proofs.scan.first_close.Given as goal
 
 -- no dowel so far has a partner
 abbrev pub invariant-loop-i : goal.invariant-loop-i
-invariant-loop-i l = (k : ℕ) → k < l.i → has_partner (close_by l.least.along l.least.across l.a l.b) l.count k ≡ false
+invariant-loop-i l = (k : ℕ) → k < l.i → has_partner (close_by l.least.along l.least.across l.v.along l.v.across) l.count k ≡ false

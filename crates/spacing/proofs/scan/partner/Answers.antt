@@ -12,6 +12,6 @@ use Rattle.spacing.proofs.scan.partner.Goals as goal
 pub returns : goal.returns
 unfolding partner
 returns c = let k = c.args in
-    let test = close_by k.least.along k.least.across k.a.now k.b.now k.i in
+    let test = close_by k.least.along k.least.across k.v.now.along k.v.now.across k.i in
     first_is test _ _ _ _ (omega arith)
     (first_from_Range _ _ _ _ (λ j. test j ≡ true) (λ j. test j ≡ false) c.find.ensures.ran (λ x q e. search rules) (λ x q e. search rules))
