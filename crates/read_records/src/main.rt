@@ -9,13 +9,12 @@ const LONGEST: usize = 70000;
 fn main(rt: HostRuntime) -> io::Result<()> {
     intake::each_file(&rt, |path, mut file| {
         let bytes = intake::read_up_to(rt.alloc(), &mut file, LONGEST)?;
-        let outcome = joint::refusal(&bytes);
-        if outcome.number == 0 {
-            return println!(rt; "{path}: accepted");
+        match joint::accept(&bytes) {
+            Ok(_) => println!(rt; "{path}: accepted"),
+            Err(rejection) => println!(rt;
+                "{path}: {} {} {} {}",
+                rejection.number(), rejection.member(), rejection.first(), rejection.second()
+            ),
         }
-        println!(rt;
-            "{path}: {} {} {} {}",
-            outcome.number, outcome.member, outcome.first, outcome.second
-        )
     })
 }
