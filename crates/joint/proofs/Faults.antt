@@ -3,7 +3,7 @@ use Prim.Native.Nat.{ℕ, zero, suc, ◌+◌, ◌≤◌, ◌<◌, suc-le-suc}
 use native.Mathlib.Omega.{arith}
 use mathlib.Core.Path.{◌≡◌, refl, sym, ap, ◌∙◌}
 use mathlib.Core.List.{List, [], ◌∷◌, ◌++◌, map}
-use Rattle.std.specs.Prelude.{Result, Ok, Err}
+use Rattle.std.specs.Prelude.{Ok, Err}
 use mathlib.Core.Bool.{Bool, true, false, cond, not, ◌&&◌, and-eq-true_iff}
 use borrow.Author.Tests.{leb-true, eqb-true, eqb-false, not-false, ne_eqb}
 use lib.Dec.{leb, ltb, eqb}
@@ -19,7 +19,7 @@ use Rattle.joint.specs.Order.{holding, tests, position}
 use Rattle.numbers.specs.Numbers.{force}
 use Rattle.joint.specs.Refusal.{loads_within, fields_within, no_force, Test, test, script_tests, designer_tests, drill_tests, first_holding}
 use Rattle.joint.specs.Refusal.{fault10, fault11, fault12, is_fault, frame, alongs, acrosses, drill_fault}
-use Rattle.joint.specs.Refusal.{refusal_number, refusal_of, zero_values, reading_of, outcome, outcome_of}
+use Rattle.joint.specs.Refusal.{refusal_number, refusal_of, reading_of, outcome, outcome_of}
 use Rattle.joint.specs.declared.Values.{Values}
 use Rattle.joint.specs.Refusal.{value_tests}
 use Rattle.joint.specs.Answer.{Reading}

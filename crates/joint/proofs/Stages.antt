@@ -5,13 +5,11 @@ use native.Mathlib.Nat.{add-zero, add-sub_cancel_left}
 use native.Mathlib.Numerals.{add-one}
 use mathlib.Core.Path.{◌≡◌, refl, sym, ap, ◌∙◌}
 use mathlib.Core.List.{List}
-use Rattle.std.specs.Prelude.{Option, Some, None}
+use Rattle.std.specs.Prelude.{Some, None}
 use mathlib.Core.Bool.{Bool, true, false, cond, not, ◌&&◌, ◌||◌, false≢true, and-false, and-eq-true_iff}
 use lib.Dec.{eqb, leb, lit≤}
 use lib.ListN.{length, get_or, take, drop, replicate, length-drop}
 use lib.Seq.{length-take-le, get_or-take, get_or-drop}
-use mir.Syntax.{w32}
-use mir.Val.{SFits, of_z}
 use borrow.Author.Tests.{lt-ltb, le-ltb, ltb-false, eq-eqb, ne_eqb, eqb-true, not-false}
 use Rattle.numbers.specs.Numbers.{u8_at, u16_at}
 use Rattle.codes.specs.Tables.{is_version}

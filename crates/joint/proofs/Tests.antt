@@ -1,29 +1,15 @@
--- A call's flag that a branch went by: what the call ensures of the flag, and which way the branch went.
+-- What a branch's test, or an answer that may be lacking, says.
 use mathlib.Core.Path.{◌≡◌, refl, sym, ◌∙◌}
 use mathlib.Core.Bool.{Bool, true, false, cond}
-use Rattle.std.specs.Prelude.{Option, Some, None}
+use Rattle.std.specs.Prelude.{Some, None}
 use Prim.Native.Nat.{ℕ, ◌<◌}
 use borrow.Author.Tests.{eq-eqb, ne_eqb}
-use native.Mathlib.Omega.{arith}
-use lib.Dec.{eqb, eqb-suc-zero}
-use lib.IntN.{ℤ, pos, negsuc, nat_abs}
+use lib.Dec.{eqb}
+use lib.IntN.{ℤ}
 use lib.Signed.{mag}
 use mir.Facts.{to_z-of_z}
 use mir.Syntax.{w32}
-use mir.Val.{SFits, of_z, to_z}
-
--- `if !flag` was taken
-pub failed : {r t : Bool} → r ≡ t → r ≡ false → t ≡ false
-failed e h = sym e ∙ h
-
--- `if !flag` was not taken
-pub held : {r t : Bool} → r ≡ t → r ≡ true → t ≡ true
-held e h = sym e ∙ h
-
--- a signed number is 0 where its bits are
-pub zero_bits : (z : ℤ) → SFits w32 z → eqb (of_z w32 z) 0 ≡ eqb (nat_abs z) 0
-zero_bits (pos n) h = refl
-zero_bits (negsuc n) h = ne_eqb (of_z w32 (negsuc n)) 0 (λ e. omega (arith, h.sfits)) ∙ sym (eqb-suc-zero n)
+use mir.Val.{of_z, to_z}
 
 -- a signed number is read back from its bits
 pub from_bits : {r z : ℤ} → r ≡ z → mag r < 2147483648 → to_z w32 (of_z w32 r) ≡ z

@@ -66,6 +66,7 @@ pub struct Positions {
 // By hand: of an array a derive says no more than that each place is 0.
 impl Default for Positions {
     ghost use Rattle.joint.specs.Refusal.{zero_positions};
+
     ghost is_default = { λ p. p ≡ zero_positions };
 
     fn default() -> Positions {

@@ -6,7 +6,6 @@ use mathlib.Core.List.{List}
 use lib.ListN.{length}
 use Rattle.joint.specs.Answer.{Report}
 use Rattle.joint.specs.Claim.{Reported}
-use Rattle.joint.specs.Returned.{report_of}
 use Rattle.joint.proofs.Claims.{claim}
 use Rattle.lent.specs.Lent.{front}
 use Rattle.negwishal.specs.Export.{filled, Exported}

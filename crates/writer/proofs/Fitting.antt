@@ -3,15 +3,11 @@ use Prim.Native.Nat.{ℕ, ◌≤◌}
 use mathlib.Core.List.{List}
 use lib.ListN.{length}
 use mathlib.Core.Path.{◌≡◌, refl, sym, ap, ◌∙◌}
-use mathlib.Core.Bool.{Bool, true, false, not, ◌&&◌, false≢true, and-false, and-eq-true_iff}
+use mathlib.Core.Bool.{Bool, true, false, not, ◌&&◌, false≢true, and-eq-true_iff}
 use native.Mathlib.Omega.{arith}
-use borrow.Author.Tests.{leb-true, le-leb, eqb-true, not-false}
-use lib.Dec.{T, leb, eqb}
+use borrow.Author.Tests.{leb-true, le-leb, eqb-true}
 use lib.IntN.{ℤ, pos, negsuc, nat_abs}
-use lib.Signed.{non_neg, le_z}
-use mir.Syntax.{w8, w16}
-use mir.Val.{Fits}
-use Rattle.numbers.specs.Numbers.{between_z}
+use lib.Signed.{le_z}
 use Rattle.codes.proofs.Woods.{class_byte}
 use Rattle.codes.specs.Tables.{is_version}
 use Rattle.joint.specs.Refusal.{member_within, members_within, fields_within}

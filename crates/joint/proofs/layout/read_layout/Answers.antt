@@ -1,8 +1,4 @@
 -- Each return by the law of its test.
-use Prim.Native.Nat.{◌≤◌}
-use lib.ListN.{length}
-use native.Mathlib.Omega.{arith}
-use mathlib.Core.Path.{sym}
 use Rattle.joint.proofs.Stages.{bounded, header_right, too_short, wrong_version, wrong_count, pairs_broken, wrong_kinds, wrong_length, right_lengths, kinds_there, part_inside}
 use Rattle.joint.proofs.layout.read_layout.Goals as goal
 

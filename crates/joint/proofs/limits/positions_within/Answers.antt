@@ -1,7 +1,7 @@
 -- 64 numbers at most are scanned.
 use native.Mathlib.Omega.{arith}
 use mathlib.Core.Path.{sym, ◌∙◌}
-use Rattle.joint.specs.Refusal.{between, positions_within}
+use Rattle.joint.specs.Refusal.{positions_within}
 use Rattle.joint.proofs.Accepted.{between_high}
 use Rattle.joint.proofs.Columns.{coordinates_are}
 use Rattle.joint.proofs.limits.positions_within.Goals as goal

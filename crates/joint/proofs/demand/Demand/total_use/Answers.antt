@@ -3,7 +3,7 @@ use native.Mathlib.Omega.{arith}
 use mathlib.Core.Path.{◌∙◌, ap}
 use Prim.Native.Nat.{ℕ, ◌*◌}
 use Rattle.joint.specs.Returned.{total_use_of, ceiling_of}
-use Rattle.joint.proofs.UseSizes.{scaled_small, total_divisor, total_some}
+use Rattle.joint.proofs.UseSizes.{scaled_small, total_some}
 use Rattle.joint.proofs.Uses.{ceiling_is}
 use Rattle.joint.proofs.demand.Demand.total_use.Goals as goal
 
