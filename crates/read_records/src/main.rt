@@ -13,7 +13,10 @@ fn main(rt: HostRuntime) -> io::Result<()> {
             Ok(_) => println!(rt; "{path}: accepted"),
             Err(rejection) => println!(rt;
                 "{path}: {} {} {} {}",
-                rejection.number(), rejection.member(), rejection.first(), rejection.second()
+                rejection.number(),
+                rejection.member(),
+                rejection.first(),
+                rejection.second()
             ),
         }
     })
