@@ -10,9 +10,8 @@ use lib.Dec.{eqb}
 use lib.IntN.{ℤ}
 use borrow.Author.Tests.{eq-eqb, ne_eqb}
 use Rattle.spacing.specs.Spacing.{place}
-use Rattle.group.specs.declared.order.Listed.{Listed}
 use Rattle.group.specs.Rows.{count_to}
-use Rattle.group.specs.Listing.{Relisting, Relisted}
+use Rattle.group.specs.Listing.{Listed, Relisting, Relisted}
 use Rattle.group.specs.Share.{within_reach, in_window, closest_to, window_number, window_closest, farthest}
 use Rattle.group.proofs.Counting.{closest_bound, closest_least, closest_from}
 

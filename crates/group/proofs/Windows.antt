@@ -1,48 +1,44 @@
 -- A pass over the dowels in their order along sees each window of a member as it is; a member's share does not ask the order of the list.
-use Prim.Native.Nat.{ℕ, ◌≤◌}
+use Prim.Native.Nat.{ℕ, ◌≤◌, ◌<◌}
 use mathlib.Core.Path.{◌≡◌, refl, sym, ap, ap₂, ◌∙◌}
 use mathlib.Core.Bool.{Bool, true, false}
 use mathlib.Core.List.{List}
 use native.Mathlib.Nat.{le_refl}
 use lib.IntN.{ℤ}
 use Rattle.spacing.specs.Spacing.{place}
-use Rattle.group.specs.declared.order.Listed.{Listed}
 use Rattle.group.specs.declared.rows.Row.{Row}
-use Rattle.group.specs.Listing.{in_order, Relisting, Relisted}
+use Rattle.group.specs.Listing.{Listed, Relisting, Relisted, Ordered}
 use Rattle.group.specs.Share.{in_window, window_number, window_closest, row_passes, all_to, greatest_to, member_share, window_seen, WorstOf}
-use Rattle.group.proofs.OrderLaws.{Long, rising, relisted}
 use Rattle.group.proofs.Relist.{window_number_lem, window_closest_lem}
 use Rattle.group.proofs.SeenLaws.{seen_count, seen_least}
 use Rattle.group.proofs.Shares.{all_true, all_at, all_same, greatest_same}
 
-module _ (a b : List ℤ) (count : ℕ) (long : Long count (record { along = a; across = b })) where
+module _ (a b : List ℤ) (count : ℕ) (l : Listed) (o : Ordered count a b l) where
   abbrev from : Listed
   from = record { along = a; across = b }
 
-  abbrev listed : Listed
-  listed = in_order from count
-
-  number_is : (reach : ℕ) (z : ℤ) → (window_seen listed.along listed.across count reach z).number ≡ window_number b count reach z
+  number_is : (reach : ℕ) (z : ℤ) → (window_seen l.along l.across count reach z).number ≡ window_number b count reach z
   number_is reach z =
-      seen_count (in_window listed.across reach z) listed.along count
-      ∙ window_number_lem count from listed (relisted count from long) reach z
+      seen_count (in_window l.across reach z) l.along count ∙ window_number_lem count from l o.relisted reach z
 
-  closest_is :
-      (reach : ℕ) (z : ℤ) → (window_seen listed.along listed.across count reach z).least ≡ window_closest a b count reach z
+  closest_is : (reach : ℕ) (z : ℤ) → (window_seen l.along l.across count reach z).least ≡ window_closest a b count reach z
   closest_is reach z =
-      seen_least (in_window listed.across reach z) listed.along count (rising count from long) count (le_refl _)
-      ∙ window_closest_lem count from listed (relisted count from long) reach z
+      seen_least (in_window l.across reach z) l.along count o.rising count (le_refl _)
+      ∙ window_closest_lem count from l o.relisted reach z
 
   -- so the worst of the windows from the dowels gives the member's share
   pub worst_share :
-      (d reach : ℕ) (worst : Row) (e : ℕ) → d ≤ 30 → WorstOf reach listed.along listed.across count b count worst →
+      (d reach : ℕ) (starts : List ℤ) (worst : Row) (e : ℕ) → d ≤ 30 →
+      ((i : ℕ) → i < count → place starts i ≡ place b i) → WorstOf reach l.along l.across count starts count worst →
       e ≡ greatest_to (row_passes d worst.number worst.least) 10000 → e ≡ member_share d reach a b count
   unfolding member_share
-  worst_share d reach worst e thick w is =
+  worst_share d reach starts worst e thick same w is =
       is
       ∙ greatest_same _ _ 10000 (λ k h.
       w.passes d k thick h
-      ∙ all_same _ _ count (λ i l. ap₂ (λ n c. row_passes d n c k) (number_is reach (place b i)) (closest_is reach (place b i))))
+      ∙ all_same _ _ count (λ i q.
+      ap₂ (λ n c. row_passes d n c k) (number_is reach (place starts i)) (closest_is reach (place starts i))
+      ∙ ap (λ z. row_passes d (window_number b count reach z) (window_closest a b count reach z) k) (same i q)))
 
 -- ---- the share does not ask the order of the list
 -- all below n pass, taken in another order

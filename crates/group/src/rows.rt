@@ -1,8 +1,9 @@
 // Rows of dowels in a member, as windows across it (01, 'Rows, share and use'; 02, A3).
-ghost use Rattle.std.specs.Prelude.{◌≡◌, ◌<◌, ◌≤◌};
+ghost use Rattle.std.specs.Prelude.{◌≡◌, ◌<◌, ◌≤◌, length};
+ghost use Rattle.group.specs.Listing.{listed};
 ghost use Rattle.group.specs.Share.{within_reach, longer, window_seen};
 
-use crate::order::Listed;
+use crate::order::Hole;
 
 // In tenths: at this distance a row passes every share, so a greater one need not be told apart from it.
 pub const FARTHEST: u64 = 200000;
@@ -36,21 +37,21 @@ fn longer(row: Row, last: Option<i32>, at: i32) -> Row
     }
 }
 
-// The dowels not below a place across and within reach of it, in one pass over lists in their order along.
-pub fn window_from(listed: &Listed, count: usize, from: i32, reach: u64) -> Row
-    requires { count ≤ 64 }
-    ensures { result ≡ window_seen listed.now.along listed.now.across count reach from }
+// The dowels not below a place across and within reach of it, in one pass over dowels in their order along.
+pub fn window_from(holes: &[Hole], from: i32, reach: u64) -> Row
+    requires { length holes.now ≤ 64 }
+    ensures { let l = listed holes.now in result ≡ window_seen l.along l.across (length holes.now) reach from }
 {
     let mut row = Row {
         number: 0,
         least: FARTHEST,
     };
     let mut last = None;
-    for j in 0..count {
-        let at = listed.along[j];
-        if within_reach(from, listed.across[j], reach) {
-            row = longer(row, last, at);
-            last = Some(at);
+    for hole in holes {
+        let Hole { along, across } = *hole;
+        if within_reach(from, across, reach) {
+            row = longer(row, last, along);
+            last = Some(along);
         }
     }
     row

@@ -1,8 +1,9 @@
 // The share of a row and of a member, in ten-thousandths, rounded down (01, 'Rows, share and use'; 02, A3).
-ghost use Rattle.std.specs.Prelude.{◌≡◌, ◌*◌, ◌^◌, ◌<◌, ◌≤◌, leb};
+ghost use Rattle.std.specs.Prelude.{◌≡◌, ◌*◌, ◌^◌, ◌<◌, ◌≤◌, leb, length};
 ghost use Rattle.wide.specs.Natural.{value};
 ghost use Rattle.strength.specs.Roots.{FactorWithin};
 ghost use Rattle.group.specs.Rows.{RowsGiven};
+ghost use Rattle.group.specs.Listing.{listed};
 ghost use Rattle.group.specs.Share.{
   farthest,
   units,
@@ -15,7 +16,7 @@ ghost use Rattle.group.specs.Share.{
   MemberShared,
 };
 
-use crate::order::{self, Listed};
+use crate::order::{self, Hole};
 use crate::rows::{self, Row};
 use strength::roots;
 
@@ -93,25 +94,25 @@ fn deciding(worst: Row, row: Row) -> Row
 }
 
 // Whether a window starts where the one before it did.
-fn same_start(starts: &[i32; 64], i: usize) -> bool
-    requires { i < 64 }
+fn same_start(starts: &[i32], i: usize) -> bool
+    requires { i < length starts.now }
     ensures { result ≡ same_start starts.now i }
 {
     i > 0 && starts[i - 1] == starts[i]
 }
 
 // Of the windows from each of `starts` upwards the one that passes the fewest shares.
-fn worst_window(listed: &Listed, starts: &[i32; 64], count: usize, reach: u64) -> Row
-    requires { count ≤ 64 }
-    ensures { WorstOf reach listed.now.along listed.now.across count starts.now count result }
+fn worst_window(holes: &[Hole], starts: &[i32], reach: u64) -> Row
+    requires { length holes.now ≤ 64 }
+    ensures { let l = listed holes.now in WorstOf reach l.along l.across (length holes.now) starts.now (length starts.now) result }
 {
     let mut worst = Row {
         number: 1,
         least: rows::FARTHEST,
     };
-    for i in 0..count {
+    for i in 0..starts.len() {
         if !same_start(starts, i) {
-            worst = deciding(worst, rows::window_from(listed, count, starts[i], reach));
+            worst = deciding(worst, rows::window_from(holes, starts[i], reach));
         }
     }
     worst
@@ -122,12 +123,6 @@ pub fn member_share(d: u64, reach: u64, a: [i32; 64], b: [i32; 64], count: usize
     requires { RowsGiven d reach count }
     ensures { MemberShared d reach a b count result }
 {
-    let listed = order::in_order(
-        Listed {
-            along: a,
-            across: b,
-        },
-        count,
-    );
-    row_share(d, worst_window(&listed, &b, count, reach))
+    let holes = order::in_order(&a, &b, count);
+    row_share(d, worst_window(&holes[..count], &b[..count], reach))
 }

@@ -6,7 +6,6 @@ ghost use Rattle.spacing.specs.Spacing.{
   too_close,
   end_too_near,
   edge_too_near,
-  Components,
 };
 ghost use Rattle.spacing.specs.Limits.{
   Scale,
@@ -18,7 +17,7 @@ ghost use Rattle.spacing.specs.Limits.{
 };
 
 use crate::force::{square, squared_force};
-use crate::view::Frame;
+use crate::view::Measured;
 use strength::roots;
 
 // Table 8 in tenths of a millimetre for each millimetre of d: 3d between dowels, to an end and to an edge.
@@ -61,60 +60,64 @@ fn least_part(k: u64, part: u64, total: u64) -> u64
     roots::whole_square_root((whole - 1) / total) + 1
 }
 
-// The least distance of two dowels along the grain: (3 + 2 cos α) d.
-fn between_dowels(d: u64, force: i32, sideways: i32) -> u64
-    requires { Components d force sideways }
-    ensures { PairLimit d (square force) (squared_force force sideways) result }
-{
-    let total = squared_force(force, sideways);
-    APART * d + least_part(APART_ALONG * d, square(force), total)
-}
-
-// The least distance to an end: 7d and 80 mm where it is loaded, else 7d sin α and 3d.
-fn from_end(loaded: bool, d: u64, force: i32, sideways: i32) -> u64
-    requires { Components d force sideways }
-    ensures { EndLimit loaded d (square sideways) (squared_force force sideways) result }
-{
-    if loaded {
-        return (END * d).max(LOADED_END);
+impl Measured {
+    // The least distance of two dowels along the grain: (3 + 2 cos α) d.
+    fn between_dowels(&self) -> u64
+        ensures { let v = self.now.view.frame in PairLimit self.now.diameter (square v.force) (squared_force v.force v.sideways) result }
+    {
+        let v = self.view.frame;
+        let d = self.diameter;
+        let total = squared_force(v.force, v.sideways);
+        APART * d + least_part(APART_ALONG * d, square(v.force), total)
     }
-    let total = squared_force(force, sideways);
-    least_part(END * d, square(sideways), total).max(APART * d)
-}
 
-// Between two dowels of a member.
-pub(crate) fn of_pairs(v: Frame, d: u64) -> Least
-    requires { Components d v.force v.sideways }
-    ensures { (a b : List ℤ) → close_by result.along result.across a b ≡ too_close v d a b }
-{
-    Least {
-        along: between_dowels(d, v.force, v.sideways),
-        across: APART * d,
+    // The least distance to an end: 7d and 80 mm where it is loaded, else 7d sin α and 3d. `loaded` is a fact of the end and not a switch:
+    // which rule of the table holds there.
+    fn from_end(&self, loaded: bool) -> u64
+        ensures { let v = self.now.view.frame in EndLimit loaded self.now.diameter (square v.sideways) (squared_force v.force v.sideways) result }
+    {
+        let d = self.diameter;
+        if loaded {
+            return (END * d).max(LOADED_END);
+        }
+        let v = self.view.frame;
+        let total = squared_force(v.force, v.sideways);
+        least_part(END * d, square(v.sideways), total).max(APART * d)
     }
-}
 
-// To the ends of a member.
-pub(crate) fn of_ends(v: Frame, d: u64) -> Sides
-    requires { Components d v.force v.sideways }
-    ensures { (a : List ℤ) → outside result.low result.high result.under result.over a ≡ end_too_near v d a }
-{
-    Sides {
-        low: v.low,
-        high: v.high,
-        under: from_end(v.force < 0, d, v.force, v.sideways),
-        over: from_end(v.force > 0, d, v.force, v.sideways),
+    // Between two dowels of a member.
+    pub(crate) fn least(&self) -> Least
+        ensures { let m = self.now in (a b : List ℤ) → close_by result.along result.across a b ≡ too_close m.view.frame m.diameter a b }
+    {
+        Least {
+            along: self.between_dowels(),
+            across: APART * self.diameter,
+        }
     }
-}
 
-// To its edges.
-pub(crate) fn of_edges(v: Frame, d: u64) -> Sides
-    requires { d ≤ 30 }
-    ensures { (b : List ℤ) → outside result.low result.high result.under result.over b ≡ edge_too_near v d b }
-{
-    Sides {
-        low: v.left,
-        high: v.right,
-        under: APART * d,
-        over: APART * d,
+    // To the ends of a member.
+    pub(crate) fn ends(&self) -> Sides
+        ensures { let m = self.now in (a : List ℤ) → outside result.low result.high result.under result.over a ≡ end_too_near m.view.frame m.diameter a }
+    {
+        let v = self.view.frame;
+        Sides {
+            low: v.low,
+            high: v.high,
+            under: self.from_end(v.force < 0),
+            over: self.from_end(v.force > 0),
+        }
+    }
+
+    // To its edges.
+    pub(crate) fn edges(&self) -> Sides
+        ensures { let m = self.now in (b : List ℤ) → outside result.low result.high result.under result.over b ≡ edge_too_near m.view.frame m.diameter b }
+    {
+        let v = self.view.frame;
+        Sides {
+            low: v.left,
+            high: v.right,
+            under: APART * self.diameter,
+            over: APART * self.diameter,
+        }
     }
 }

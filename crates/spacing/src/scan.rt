@@ -5,7 +5,7 @@ ghost use Rattle.spacing.specs.Search.{FirstIs, PairIs, first_from, partner};
 ghost use Rattle.spacing.specs.Limits.{near_limit, close_by, outside};
 
 use crate::limit::{Least, Sides};
-use crate::view::View;
+use crate::view::Measured;
 
 impl Least {
     // Whether dowels i and j are nearer than both limits.
@@ -33,31 +33,32 @@ impl Sides {
     }
 }
 
-// The first dowel after i that is too close to i.
-fn partner(v: &View, count: usize, i: usize, least: Least) -> Option<usize>
-    requires { (i < count) × (count ≤ 64) }
-    ensures { FirstIs result (partner (close_by least.along least.across v.now.along v.now.across) count i) count }
-{
-    (i + 1..count).find(|j| least.broken(&v.along, &v.across, i, *j))
-}
-
-// The first two dowels that are too close.
-pub fn first_close(v: &View, count: usize, least: Least) -> Option<(usize, usize)>
-    requires { count ≤ 64 }
-    ensures { PairIs result (close_by least.along least.across v.now.along v.now.across) count }
-{
-    for i in 0..count {
-        if let Some(j) = partner(v, count, i, least) {
-            return Some((i, j));
-        }
+impl Measured {
+    // The first dowel after i that is too close to i.
+    fn partner(&self, i: usize, least: Least) -> Option<usize>
+        requires { i < self.now.count }
+        ensures { let m = self.now in FirstIs result (partner (close_by least.along least.across m.view.along m.view.across) m.count i) m.count }
+    {
+        let v = &self.view;
+        (i + 1..self.count).find(|j| least.broken(&v.along, &v.across, i, *j))
     }
-    None
-}
 
-// The first dowel that lies too near to the low or the high side, or outside.
-pub fn first_outside(v: &[i32; 64], count: usize, sides: Sides) -> Option<usize>
-    requires { count ≤ 64 }
-    ensures { FirstIs result (first_from (outside sides.low sides.high sides.under sides.over v.now) 0 count) count }
-{
-    (0..count).find(|i| sides.too_near(v[*i]))
+    // The first two dowels that are too close.
+    pub(crate) fn first_close(&self, least: Least) -> Option<(usize, usize)>
+        ensures { let m = self.now in PairIs result (close_by least.along least.across m.view.along m.view.across) m.count }
+    {
+        for i in 0..self.count {
+            if let Some(j) = self.partner(i, least) {
+                return Some((i, j));
+            }
+        }
+        None
+    }
+
+    // The first dowel that lies too near to the low or the high side, or outside, by its coordinates along or across.
+    pub(crate) fn first_outside(&self, v: &[i32; 64], sides: Sides) -> Option<usize>
+        ensures { let n = self.now.count in FirstIs result (first_from (outside sides.low sides.high sides.under sides.over v.now) 0 n) n }
+    {
+        (0..self.count).find(|i| sides.too_near(v[*i]))
+    }
 }

@@ -13,8 +13,7 @@ ghost use Rattle.spacing.specs.Verdict.{
   spacing_verdict,
 };
 
-use crate::view::{Piece, Plan, View, Which};
-use crate::{limit, scan};
+use crate::view::{Measured, Piece, Plan, View, Which};
 
 // A refusal with its place, dowels counted from 1.
 #[derive(Clone, Copy, PartialEq, Eq, Debug)]
@@ -79,23 +78,13 @@ impl Fault {
     }
 }
 
-// A member as the searches take it: what it measures, and the diameter and the number of the dowels.
-#[derive(Clone, Copy)]
-struct Measured {
-    member: Which,
-    view: View,
-    diameter: u64,
-    count: usize,
-    ghost given: { Given diameter view.frame.force view.frame.sideways count },
-}
-
 impl Measured {
     // Refusal 10: two dowels too close.
     fn pair_fault(&self) -> Result<(), Fault>
         ensures { let m = self.now in told result ≡ pair_fault (number_of m.member) m.view.frame m.diameter m.view.along m.view.across m.count }
     {
-        let least = limit::of_pairs(self.view.frame, self.diameter);
-        match scan::first_close(&self.view, self.count, least) {
+        let least = self.least();
+        match self.first_close(least) {
             None => Ok(()),
             Some((i, j)) => Err(Fault::DowelsTooClose {
                 member: self.member,
@@ -109,8 +98,8 @@ impl Measured {
     fn end_fault(&self) -> Result<(), Fault>
         ensures { let m = self.now in told result ≡ end_fault (number_of m.member) m.view.frame m.diameter m.view.along m.count }
     {
-        let ends = limit::of_ends(self.view.frame, self.diameter);
-        match scan::first_outside(&self.view.along, self.count, ends) {
+        let ends = self.ends();
+        match self.first_outside(&self.view.along, ends) {
             None => Ok(()),
             Some(i) => Err(Fault::EndTooNear {
                 member: self.member,
@@ -123,8 +112,8 @@ impl Measured {
     fn edge_fault(&self) -> Result<(), Fault>
         ensures { let m = self.now in told result ≡ edge_fault (number_of m.member) m.view.frame m.diameter m.view.across m.count }
     {
-        let edges = limit::of_edges(self.view.frame, self.diameter);
-        match scan::first_outside(&self.view.across, self.count, edges) {
+        let edges = self.edges();
+        match self.first_outside(&self.view.across, edges) {
             None => Ok(()),
             Some(i) => Err(Fault::EdgeTooNear {
                 member: self.member,

@@ -6,8 +6,8 @@ ghost use Rattle.spacing.specs.Verdict.{number_of};
 // The dowels put the force into member 2, and its opposite into member 1.
 #[derive(Clone, Copy, PartialEq, Eq, Debug)]
 pub enum Which {
-    Member1,
-    Member2,
+    Member1 = 1,
+    Member2 = 2,
 }
 
 // A member's grain (0 along x, 1 along y) and outline, in tenths. The grain stays a u8, since an enum would ask more of callers.
@@ -51,15 +51,22 @@ pub struct View {
     pub across: [i32; 64],
 }
 
+// A member as the searches take it: how a place names it, what it measures, and the diameter and the number of the dowels.
+#[derive(Clone, Copy)]
+pub(crate) struct Measured {
+    pub member: Which,
+    pub view: View,
+    pub diameter: u64,
+    pub count: usize,
+    pub ghost given: { Given diameter view.frame.force view.frame.sideways count },
+}
+
 impl Which {
     // How a place names a member.
     pub fn number(self) -> u8
         ensures { result ≡ number_of self }
     {
-        match self {
-            Which::Member1 => 1,
-            Which::Member2 => 2,
-        }
+        self as u8
     }
 
     // A component of the force in a member.

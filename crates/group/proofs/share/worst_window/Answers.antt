@@ -7,6 +7,7 @@ use Prim.Native.Nat.{ℕ, ◌+◌, ◌-◌, ◌≤◌, ◌<◌}
 use native.Mathlib.Omega.{arith}
 use lib.Dec.{eqb, lit≤}
 use lib.IntN.{ℤ}
+use lib.ListN.{length}
 use borrow.Author.Tests.{not-true, eqb-true, eqb-false}
 use mir.Syntax.{w32}
 use mir.Val.{SFits, to_z, of_z}
@@ -14,6 +15,7 @@ use mir.Facts.{to_z-of_z}
 use Rattle.spacing.specs.Spacing.{place, distance}
 use Rattle.spacing.proofs.Integers.{same_place}
 use Rattle.group.specs.declared.rows.Row.{Row}
+use Rattle.group.specs.Listing.{listed}
 use Rattle.group.specs.Share.{in_window, all_to, row_passes, RowHolds, Decides, window_seen, same_start, WorstOf}
 use Rattle.group.proofs.Counting.{count_bound}
 use Rattle.group.proofs.SeenLaws.{seen_count, seen_least_bound}
@@ -71,21 +73,24 @@ loop-i-init c = record {
 pub deciding-worst-requires : goal.deciding-worst-requires
 deciding-worst-requires c = let k = c.args in
     let w = c.loop-i.invariant in
+    let l = listed k.holes.now in
     let from = to_z w32 (of_z w32 (place k.starts.now c.loop-i.i)) in
-    (w.some, w.within, rw c.window_from.ensures (seen_holds k.listed.now.along k.listed.now.across k.count k.reach from c.requires))
+    (w.some, w.within, rw c.window_from.ensures (seen_holds l.along l.across (length k.holes.now) k.reach from c.requires))
 
 pub loop-i-preserved : goal.loop-i-preserved
 loop-i-preserved c = let k = c.args in
     let i = c.loop-i.i in
     let w = c.loop-i.invariant in
+    let l = listed k.holes.now in
+    let n = length k.holes.now in
     elim c.if-not-same_start.branch [
       | then-not-same_start s ↦
           let start : SFits w32 (place k.starts.now i) = search rules in
           rw s.worst-is
-          (one_more k.reach k.listed.now.along k.listed.now.across k.count k.starts.now i c.loop-i.worst w _
+          (one_more k.reach l.along l.across n k.starts.now i c.loop-i.worst w _
           (rw (s.window_from.ensures, to_z-of_z start) at s.deciding-worst.ensures))
       | else-not-same_start s ↦
           rw s.worst-is
-          (once_more k.reach k.listed.now.along k.listed.now.across k.count k.starts.now i c.loop-i.worst w
+          (once_more k.reach l.along l.across n k.starts.now i c.loop-i.worst w
           (sym c.same_start.ensures ∙ s.if-not-same_start.false))
     ]

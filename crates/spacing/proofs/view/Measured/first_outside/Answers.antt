@@ -1,17 +1,16 @@
--- The search over the dowels after i is that of the definition.
+-- The search over the dowels is that of the definition.
 use borrow.Author.Rules.{rules}
 use mathlib.Core.Path.{◌≡◌}
 use mathlib.Core.Bool.{true, false}
 use native.Mathlib.Omega.{arith}
 use Rattle.std.proofs.lemmas.Iterator.{first_from_Range}
-use Rattle.spacing.specs.Search.{partner}
-use Rattle.spacing.specs.Limits.{close_by}
+use Rattle.spacing.specs.Limits.{outside}
 use Rattle.spacing.proofs.Search.{first_is}
-use Rattle.spacing.proofs.scan.partner.Goals as goal
+use Rattle.spacing.proofs.view.Measured.first_outside.Goals as goal
 
 pub returns : goal.returns
-unfolding partner
 returns c = let k = c.args in
-    let test = close_by k.least.along k.least.across k.v.now.along k.v.now.across k.i in
+    let s = k.sides in
+    let test = outside s.low s.high s.under s.over k.v.now in
     first_is test _ _ _ _ (omega arith)
     (first_from_Range _ _ _ _ (λ j. test j ≡ true) (λ j. test j ≡ false) c.find.ensures.ran (λ x q e. search rules) (λ x q e. search rules))
