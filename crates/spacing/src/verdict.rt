@@ -66,7 +66,7 @@ impl Fault {
         }
     }
 
-    // The second of two dowels, else 0.
+    // The second of two dowels, else 0: so a place is told (01), and an `Option` would be turned into that by each caller.
     pub fn second(self) -> u8
         ensures { result ≡ (fault_of self).second }
     {
@@ -146,7 +146,7 @@ fn viewed(which: Which, m: Piece, plan: Plan) -> Result<(), Fault>
     member_verdict(which, plan.view(which, m), plan.diameter, plan.count)
 }
 
-// The verdict of both members, member 1 first.
+// The verdict of both members, member 1 first. Members and plan stay three parameters: a struct of them would only be taken apart here.
 pub fn spacing_verdict(member1: Piece, member2: Piece, plan: Plan) -> Result<(), Fault>
     ensures { told result ≡ spacing_verdict member1 member2 plan.diameter plan.fx plan.fy plan.x plan.y plan.count }
 {

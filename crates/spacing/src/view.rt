@@ -20,7 +20,8 @@ pub struct Piece {
     pub y1: i32,
 }
 
-// The diameter in mm, the force into member 2 in N, and the first `count` places of dowels, in tenths.
+// The diameter in mm, the force into member 2 in N, and the first `count` places of dowels, in tenths. Arrays of fixed size by value beside
+// their number, as document 01 names the form: no heap.
 #[derive(Clone, Copy)]
 pub struct Plan {
     pub diameter: u64,

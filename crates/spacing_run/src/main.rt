@@ -1,20 +1,51 @@
 // Runs the spacing verdict and the shares on the joints of standard input, one line a joint.
-// A joint is d fx fy, then grain x0 y0 x1 y1 of member 1 and of member 2, then the number of dowels, and x y of each. Then the
-// shares of the rows of 001's Table 13-2, as 001 prints them.
+// A number is a sign and seven digits with one space or line end after it: nine bytes. A joint is d fx fy, then grain x0 y0 x1
+// y1 of member 1 and of member 2, then the number of dowels, and x y of each; numbers past the end are 0. Then the shares of the
+// rows of 001's Table 13-2, as 001 prints them.
 #![tactic(auto)]
 
 ghost use Rattle.std.specs.Prelude.{◌+◌, ◌*◌, ◌≤◌, length, IfSome};
 
-use group::share;
+use group::{member, share};
 use spacing::verdict::{self, Fault};
-use spacing::view::{Piece, Plan, Which};
-use std::{array, io, str};
+use spacing::view::{Piece, Plan};
+use std::{array, io};
 
 // The most bytes that are read.
 const MOST_BYTES: usize = 65536;
 
+// How many a number has, and how many of them are digits.
+const FIELD: usize = 9;
+
+const DIGITS: usize = 7;
+
+// The last number that a joint may start at.
+const LAST_START: usize = 7100;
+
+// The numbers of a joint with 64 dowels.
+const MOST_FIELDS: usize = 142;
+
 // Tenths of a millimetre in one.
 const TENTHS: u64 = 10;
+
+// A number; 0 where it is not whole. What is no digit counts as 0.
+fn number_of(field: &[u8]) -> i32 {
+    let [sign, others @ ..] = field else {
+        return 0;
+    };
+    let Some(digits) = others.get(..DIGITS) else {
+        return 0;
+    };
+    let size = digits.iter().fold(0i32, |n, digit| {
+        n.saturating_mul(10)
+            .saturating_add((*digit as char).to_digit(10).unwrap_or(0) as i32)
+    });
+    if *sign == b'-' {
+        0i32.saturating_sub(size)
+    } else {
+        size
+    }
+}
 
 fn piece(grain: i32, x0: i32, y0: i32, x1: i32, y1: i32) -> Piece {
     Piece {
@@ -65,26 +96,19 @@ fn place_of(verdict: Result<(), Fault>) -> [u8; 4] {
     }
 }
 
-fn share_of(which: Which, m: Piece, plan: Plan) -> u64
-    requires { (6 ≤ plan.diameter) × (1 ≤ plan.count) }
-{
-    let view = plan.view(which, m);
-    let d = plan.diameter;
-    share::member_share(d, TENTHS * d, view.along, view.across, plan.count)
-}
-
 fn judge(rt: &HostRuntime, member1: Piece, member2: Piece, plan: Plan) -> io::Result<()>
     requires { (6 ≤ plan.diameter) × (1 ≤ plan.count) }
 {
     let [number, member, first, second] = place_of(verdict::spacing_verdict(
         member1, member2, plan,
     ));
-    let share1 = share_of(Which::Member1, member1, plan);
-    let share2 = share_of(Which::Member2, member2, plan);
+    let taken = member::both_taken(member1, member2, plan);
+    let share1 = taken.member1.share;
+    let share2 = taken.member2.share;
     println!(rt; "{number} {member} {first} {second} {share1} {share2} ")
 }
 
-// Each joint in turn, until no whole one is left.
+// Each joint in turn, until one has no dowel. The numbers end in as many 0 as a joint has, so that the last one is whole.
 fn joints(rt: &HostRuntime, fields: &[i32]) -> io::Result<()> {
     let mut rest = fields;
     while let [
@@ -107,6 +131,9 @@ fn joints(rt: &HostRuntime, fields: &[i32]) -> io::Result<()> {
     {
         let size = 2 * count.unsigned_abs() as usize;
         if size == 0 || 128 < size || places.len() < size {
+            return Ok(());
+        }
+        if LAST_START < fields.len().saturating_sub(rest.len()) {
             return Ok(());
         }
         let (dowels, next) = places.split_at(size);
@@ -153,13 +180,12 @@ fn table_13_2(rt: &HostRuntime) -> io::Result<()> {
 }
 
 fn main(rt: HostRuntime) -> io::Result<()> {
-    let mut text = [0u8; MOST_BYTES];
-    let n = intake::read_full(&mut rt.stdin(), &mut text);
-    let words = str::from_utf8(&text[..n]).unwrap_or("");
-    let fields = words
-        .split_ascii_whitespace()
-        .map(|word| word.parse().unwrap_or(0))
+    let text = intake::read_up_to(rt.alloc(), &mut rt.stdin(), MOST_BYTES)?;
+    let mut fields = text
+        .chunks(FIELD)
+        .map(number_of)
         .collect::<Vec<i32>>(rt.alloc())?;
+    fields.resize(fields.len() + MOST_FIELDS, 0)?;
     joints(&rt, &fields)?;
     table_13_2(&rt)
 }
