@@ -7,13 +7,13 @@ use native.Mathlib.Nat.{le_refl}
 use lib.IntN.{ℤ}
 use Rattle.spacing.specs.Spacing.{place}
 use Rattle.group.specs.declared.rows.Row.{Row}
-use Rattle.group.specs.Listing.{Listed, Relisting, Relisted, Ordered}
+use Rattle.group.specs.Listing.{Listed, Relisting, Relisted, InOrder}
 use Rattle.group.specs.Share.{in_window, window_number, window_closest, row_passes, all_to, greatest_to, member_share, window_seen, WorstOf}
 use Rattle.group.proofs.Relist.{window_number_lem, window_closest_lem}
 use Rattle.group.proofs.SeenLaws.{seen_count, seen_least}
 use Rattle.group.proofs.Shares.{all_true, all_at, all_same, greatest_same}
 
-module _ (a b : List ℤ) (count : ℕ) (l : Listed) (o : Ordered count a b l) where
+module _ (a b : List ℤ) (count : ℕ) (l : Listed) (o : InOrder count a b l) where
   abbrev from : Listed
   from = record { along = a; across = b }
 
