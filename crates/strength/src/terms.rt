@@ -12,7 +12,7 @@ use crate::roots;
 // 2^60: the square of the unit of the root of s² and c².
 const UNIT_SQUARED: u64 = 1152921504606846976;
 
-// A bearing strength f = 82 (100 - d)/100 num/den.
+// A bearing strength f = 82 (100 - d)/100 num/den, in arrays that hold as many limbs as it needs: the library has no heap for a Vec.
 #[derive(Clone, Copy)]
 pub struct Bearing {
     pub num: [u32; 3],

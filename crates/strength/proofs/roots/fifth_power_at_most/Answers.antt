@@ -25,10 +25,13 @@ pub times_u64-fifth-requires : goal.times_u64-fifth-requires
 times_u64-fifth-requires c = (lit< tt, product_fits 256 64 10 (fourth_bits c.product-fourth.ensures c.product_u64-square.ensures c.ranges.r.fits) c.ranges.r.fits tt)
 
 pub product-product-requires : goal.product-product-requires
-product-product-requires c = (lit< tt, product_fits 320 96 13
-    (fifth_bits c.times_u64-fifth.ensures c.product-fourth.ensures c.product_u64-square.ensures c.ranges.r.fits)
-    c.requires.high
-    tt)
+product-product-requires c = (
+  lit< tt,
+  product_fits 320 96 13
+      (fifth_bits c.times_u64-fifth.ensures c.product-fourth.ensures c.product_u64-square.ensures c.ranges.r.fits)
+      c.requires.high
+      tt,
+)
 
 pub returns : goal.returns
 returns c = c.at_most.ensures
