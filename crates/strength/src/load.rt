@@ -23,10 +23,8 @@ impl Load {
         requires { root ≤ 1073741824 }
         ensures { result ≡ wedge_of (self.now.units * value self.now.bearing.num) (value self.now.bearing.den) root }
     {
-        let mut a = [0u32; 5];
-        wide::multiply_add_u64(&mut a, &self.bearing.num, self.units * root);
-        let mut b = [0u32; 4];
-        wide::multiply_add_u64(&mut b, &self.bearing.den, UNIT + root);
+        let mut a: [u32; 5] = wide::times_u64(&self.bearing.num, self.units * root);
+        let b: [u32; 4] = wide::times_u64(&self.bearing.den, UNIT + root);
         wide::quotient(&mut a, &b)
     }
 
@@ -34,10 +32,8 @@ impl Load {
     pub fn half(&self) -> u64
         ensures { result ≡ half_of (self.now.units * value self.now.bearing.num) (value self.now.bearing.den) }
     {
-        let mut a = [0u32; 4];
-        wide::multiply_add_u64(&mut a, &self.bearing.num, self.units);
-        let mut b = [0u32; 3];
-        wide::multiply_add_u64(&mut b, &self.bearing.den, 2);
+        let mut a: [u32; 4] = wide::times_u64(&self.bearing.num, self.units);
+        let b: [u32; 3] = wide::times_u64(&self.bearing.den, 2);
         wide::quotient(&mut a, &b)
     }
 }

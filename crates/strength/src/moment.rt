@@ -22,9 +22,7 @@ fn to_the_fifth(diameter: u64, steel: u64) -> [u32; 5]
     let d2 = diameter * diameter;
     let x = b * b * d2 * d2 * diameter;
     let square = wide::product_u64(x, x);
-    let mut n = [0u32; 5];
-    wide::multiply_add_u64(&mut n, &square, b * d2 * diameter);
-    n
+    wide::times_u64(&square, b * d2 * diameter)
 }
 
 // A step of Newton's method towards the fifth root of a number below 2^15, in units of 2^-24.

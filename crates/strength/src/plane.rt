@@ -1,4 +1,5 @@
-// The values that the strength of a shear plane depends on.
+// The values that the strength of a shear plane depends on. Their limits, `MemberWithin` and `PlaneWithin`, are asked by the functions and are
+// no ghost fields: `joint`'s definitions make planes of a record's values before it is known that they lie within.
 
 // One member: density in kg/m³, k90 in thousandths, the squared force component along the grain and the whole
 // squared force (cos²α = along/total), thickness in tenths of a millimetre.

@@ -3,8 +3,6 @@ ghost use Rattle.std.specs.Prelude.{◌≡◌, ℕ, ◌+◌, ◌*◌, ◌^◌, �
 ghost use Rattle.wide.specs.Natural.{value};
 ghost use Rattle.strength.specs.Roots.{SquareRoot, FifthRoot, FifthBracket, FactorWithin, Inside};
 
-use std::num::{wrapping_add_u64, wrapping_sub_u64};
-
 // A number whose square is above every u64.
 const ABOVE_SQUARE_ROOTS: u64 = 4294967296;
 
@@ -48,12 +46,9 @@ pub fn fifth_power_at_most(r: u64, q: &[u32], n: &[u32]) -> bool
     ensures { result ≡ nat_le (r ^ 5 * value q.now) (value n.now) }
 {
     let square = wide::product_u64(r, r);
-    let mut fourth = [0u32; 8];
-    wide::multiply_add(&mut fourth, &square, &square);
-    let mut fifth = [0u32; 10];
-    wide::multiply_add_u64(&mut fifth, &fourth, r);
-    let mut product = [0u32; 13];
-    wide::multiply_add(&mut product, &fifth, q);
+    let fourth: [u32; 8] = wide::product(&square, &square);
+    let fifth: [u32; 10] = wide::times_u64(&fourth, r);
+    let product: [u32; 13] = wide::product(&fifth, q);
     wide::at_most(&product, n)
 }
 
@@ -72,6 +67,7 @@ fn inside(lo: u64, hi: u64, hint: u64) -> u64
 // The whole fifth root of n/q, known to be at least lo and below hi. The hint is tried first, then numbers that go away from it
 // by step, 2 step, 4 step and so on; where these leave the bracket it is halved. Hint and step decide how many numbers are
 // tried and nothing else.
+// Six parameters: the bracket, the hint and the step all change at each call, and a struct would be made anew each time.
 pub(crate) fn fifth_root_near(n: &[u32], q: &[u32], lo: u64, hi: u64, hint: u64, step: u64) -> u64
     requires { FifthBracket (value n.now) (value q.now) lo hi }
     ensures { FifthRoot (value n.now) (value q.now) result }
@@ -81,10 +77,10 @@ pub(crate) fn fifth_root_near(n: &[u32], q: &[u32], lo: u64, hi: u64, hint: u64,
         return lo;
     }
     let probe = inside(lo, hi, hint);
-    let further = wrapping_add_u64(step, step);
+    let further = step.wrapping_add(step);
     if fifth_power_at_most(probe, q, n) {
-        fifth_root_near(n, q, probe, hi, wrapping_add_u64(probe, step), further)
+        fifth_root_near(n, q, probe, hi, probe.wrapping_add(step), further)
     } else {
-        fifth_root_near(n, q, lo, probe, wrapping_sub_u64(probe, step), further)
+        fifth_root_near(n, q, lo, probe, probe.wrapping_sub(step), further)
     }
 }

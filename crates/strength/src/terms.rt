@@ -12,7 +12,7 @@ use crate::roots;
 // 2^60: the square of the unit of the root of s² and c².
 const UNIT_SQUARED: u64 = 1152921504606846976;
 
-// A bearing strength f = 82 (100 - d)/100 num/den.
+// A bearing strength f = 82 (100 - d)/100 num/den, in arrays that hold as many limbs as it needs: the library has no heap for a Vec.
 #[derive(Clone, Copy)]
 pub struct Bearing {
     pub num: [u32; 3],
@@ -24,22 +24,10 @@ pub fn bearing_of(m: Timber) -> Bearing
     requires { BearingWithin m.density m.k90 m.along m.total }
     ensures { BearingOf m.density m.k90 m.along m.total result }
 {
-    let mut num = [0u32; 3];
-    wide::multiply_add_u64(&mut num, &wide::from_u64(m.total), m.density);
-    let mut den = [0u32; 3];
-    wide::multiply_add_u64(&mut den, &wide::from_u64(m.total - m.along), m.k90);
+    let num = wide::times_u64(&wide::from_u64(m.total), m.density);
+    let mut den = wide::times_u64(&wide::from_u64(m.total - m.along), m.k90);
     wide::multiply_add_u64(&mut den, &wide::from_u64(m.along), 1000);
     Bearing { num, den }
-}
-
-// a b.
-pub fn product(a: &[u32; 3], b: &[u32; 3]) -> [u32; 5]
-    requires { Bits 73 (value a.now) (value b.now) }
-    ensures { value result ≡ value a.now * value b.now }
-{
-    let mut r = [0u32; 5];
-    wide::multiply_add(&mut r, a, b);
-    r
 }
 
 // a + b.
@@ -47,8 +35,7 @@ pub fn sum(a: &[u32; 5], b: &[u32; 5]) -> [u32; 5]
     requires { Bits 146 (value a.now) (value b.now) }
     ensures { value result ≡ value a.now + value b.now }
 {
-    let mut r = [0u32; 5];
-    wide::add_to(&mut r, a);
+    let mut r = *a;
     wide::add_to(&mut r, b);
     r
 }
@@ -70,15 +57,15 @@ fn crosswise(bearing1: Bearing, bearing2: Bearing) -> Joined
     requires { Bits 73 (value bearing1.num) (value bearing1.den) × Bits 73 (value bearing2.num) (value bearing2.den) }
     ensures { JoinedFrom (value bearing1.num) (value bearing1.den) (value bearing2.num) (value bearing2.den) result }
 {
-    let cross1 = product(&bearing1.num, &bearing2.den);
-    let cross2 = product(&bearing2.num, &bearing1.den);
+    let cross1 = wide::product(&bearing1.num, &bearing2.den);
+    let cross2 = wide::product(&bearing2.num, &bearing1.den);
     Joined {
         bearing1,
         bearing2,
         cross1,
         cross2,
         whole: sum(&cross1, &cross2),
-        nums: product(&bearing1.num, &bearing2.num),
+        nums: wide::product(&bearing1.num, &bearing2.num),
     }
 }
 
@@ -96,8 +83,7 @@ impl Joined {
         requires { Portion (value part.now) (value self.now.whole) }
         ensures { result ≡ share_root_of (value part.now) (value self.now.whole) }
     {
-        let mut scaled = [0u32; 7];
-        wide::multiply_add_u64(&mut scaled, part, UNIT_SQUARED);
+        let mut scaled: [u32; 7] = wide::times_u64(part, UNIT_SQUARED);
         roots::whole_square_root(wide::quotient(&mut scaled, &self.whole))
     }
 
@@ -106,10 +92,8 @@ impl Joined {
         requires { FirstWithin k m (value self.now.nums) (value self.now.whole) }
         ensures { result ≡ first_of k m (value self.now.nums) (value self.now.whole) }
     {
-        let mut a = [0u32; 7];
-        wide::multiply_add_u64(&mut a, &self.nums, 529 * k * m);
-        let mut b = [0u32; 5];
-        wide::multiply_add_u64(&mut b, &self.whole, 10);
+        let mut a: [u32; 7] = wide::times_u64(&self.nums, 529 * k * m);
+        let b: [u32; 5] = wide::times_u64(&self.whole, 10);
         roots::whole_square_root(wide::quotient(&mut a, &b))
     }
 }

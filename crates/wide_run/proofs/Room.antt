@@ -1,10 +1,10 @@
 -- What fits: the value of so many limbs is below their weight, and sums and products of such values fit limbs enough.
-use Prim.Native.Nat.{ℕ, zero, suc, ◌+◌, ◌-◌, ◌*◌, ◌^◌, ◌<◌, ◌≤◌}
-use mathlib.Core.Path.{◌≡◌, refl, ap, ◌∙◌}
+use Prim.Native.Nat.{ℕ, ◌+◌, ◌-◌, ◌*◌, ◌^◌, ◌<◌, ◌≤◌}
+use mathlib.Core.Path.{◌≡◌, ap, ◌∙◌}
 use mathlib.Core.List.{List}
 use native.Mathlib.Nat.{mul-le-mul}
 use native.Mathlib.Omega.{arith}
-use lib.ListN.{length, get_or, replicate}
+use lib.ListN.{length, get_or}
 use lib.Pow.{pow-add}
 use mir.Val.{Fits}
 use mir.Syntax.{w32}
@@ -16,10 +16,9 @@ use Rattle.wide.proofs.Bits.{weight_bits, fits_limbs, sum_bits, more_bits, produ
 abbrev pub Limbs : List ℕ → Type 0
 Limbs l = (i : ℕ) → Fits w32 (get_or l i 0)
 
-pub zeros : (n : ℕ) → value (replicate n 0) ≡ 0
-unfolding value
-zeros zero = refl
-zeros (suc n) = ap (λ (z : ℕ). 0 + 4294967296 * z) (zeros n)
+-- a slice of zeros is as long as they are, and 0
+pub lent : {items : List ℕ} {n : ℕ} (s : List ℕ) → s ≡ items → (value items ≡ 0) × (length items ≡ n) → (value s ≡ 0) × (length s ≡ n)
+lent s e h = (ap value e ∙ h.0, ap length e ∙ h.1)
 
 pub below : (l : List ℕ) → Limbs l → value l < weight l
 below l h = value_below l (λ i. (h i).fits)

@@ -15,14 +15,14 @@ fn u32_at(s: &[u8], at: usize) -> u32
     requires { at + 4 ≤ length s.now }
     ensures { result ≡ u32_at s.now at }
 {
-    u32::from_le_bytes([s[at], s[at + 1], s[at + 2], s[at + 3]])
+    u32::from_le_bytes(array::from_fn(|i| s[at + i]))
 }
 
 pub fn u64_at(s: &[u8], at: usize) -> u64
     requires { at + 8 ≤ length s.now }
     ensures { result ≡ u64_at s.now at }
 {
-    wide::BASE * u64::from(u32_at(s, at + 4)) + u64::from(u32_at(s, at))
+    u64::from_le_bytes(array::from_fn(|i| s[at + i]))
 }
 
 // Sixteen limbs.

@@ -19,7 +19,6 @@ pub fn has_short_quotient(a: &[u32], b: &[u32]) -> bool
     requires { length b.now ≤ 16 }
     ensures { result ≡ true → value a.now < 18446744073709551616 * value b.now }
 {
-    let mut p = [0u32; 19];
-    wide::multiply_add(&mut p, b, &[0, 0, 1]);
+    let p: [u32; 19] = wide::product(b, &[0, 0, 1]);
     !wide::at_most(&p, a)
 }

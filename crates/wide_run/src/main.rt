@@ -1,5 +1,6 @@
-// Runs every public operation of `wide` on the cases of standard input and writes what it got, ten lines for each case. Where an
+// Runs the public operations of `wide` on the cases of standard input and writes what it got, ten lines for each case. Where an
 // operation asks something of its operands, it is run only where a test shows that, and the line ends in '-' elsewhere.
+// `times_u64`, into as many limbs as the code says, runs in `strength_run`.
 #![tactic(auto)]
 
 ghost use Rattle.std.specs.Prelude.{◌≡◌, ◌+◌, ◌<◌, ◌≤◌, length, IfOk};
@@ -41,8 +42,15 @@ fn run_case(rt: &HostRuntime, block: &[u8; 138]) -> io::Result<()> {
     let a = &a[..cases::count(block[0])];
     let b = &b[..cases::count(block[1])];
     let m = cases::u64_at(block, 130);
-    read_only(rt, a, b, m)?;
-    in_place(rt, a, b)?;
+    write_from_u64(rt, m)?;
+    write_at_most(rt, a, b)?;
+    write_sum(rt, a, b)?;
+    write_product(rt, a, b)?;
+    write_product_and_sum(rt, a, b)?;
+    write_product_u64(rt, a, m)?;
+    write_sum_in_place(rt, a, b)?;
+    write_difference(rt, a, b)?;
+    write_quotient(rt, a, b)?;
     write_short_product(rt, cases::u64_at(block, 2), m)
 }
 
@@ -51,26 +59,6 @@ fn zeros(rt: &HostRuntime, count: usize) -> Result<Vec<u32>, AllocError>
     ensures { IfOk result (λ v. (value v.items ≡ 0) × (length v.items ≡ count)) }
 {
     Ok(vec![in rt.alloc(); 0u32; count]?)
-}
-
-// The operations that leave a and b as they are, those with a result of its own in limbs enough for it.
-fn read_only(rt: &HostRuntime, a: &[u32], b: &[u32], m: u64) -> io::Result<()> {
-    write_from_u64(rt, m)?;
-    write_at_most(rt, a, b)?;
-    write_sum(rt, &mut zeros(rt, a.len().max(b.len()) + 1)?, a, b)?;
-    write_product(rt, &mut zeros(rt, a.len() + b.len())?, a, b)?;
-    write_product_and_sum(rt, &mut zeros(rt, a.len() + b.len())?, a, b)?;
-    write_product_u64(rt, &mut zeros(rt, a.len() + 2)?, a, m)
-}
-
-// The operations that change their first operand, each on a copy of a.
-fn in_place(rt: &HostRuntime, a: &[u32], b: &[u32]) -> io::Result<()>
-    requires { length b.now ≤ 16 }
-{
-    let mut largest = vec![in rt.alloc(); u32::MAX; a.len()]?;
-    write_sum_in_place(rt, &mut a.to_vec(rt.alloc())?, b, &mut largest)?;
-    write_difference(rt, &mut a.to_vec(rt.alloc())?, b)?;
-    write_quotient(rt, &mut a.to_vec(rt.alloc())?, b)
 }
 
 // All limbs, the highest first.
@@ -102,39 +90,37 @@ fn write_at_most(rt: &HostRuntime, a: &[u32], b: &[u32]) -> io::Result<()> {
     println!(rt; "at most {below}{above}")
 }
 
-// a + b in s, which is one limb longer than both and holds 0.
-fn write_sum(rt: &HostRuntime, s: &mut [u32], a: &[u32], b: &[u32]) -> io::Result<()>
-    requires { (value s.old ≡ 0) × (length a.now < length s.old) × (length b.now < length s.old) }
-{
+// a + b, in one limb more than the longer of both has.
+fn write_sum(rt: &HostRuntime, a: &[u32], b: &[u32]) -> io::Result<()> {
+    let mut room = zeros(rt, a.len().max(b.len()) + 1)?;
+    let s = room.as_mut_slice();
     wide::add_to(s, a);
     wide::add_to(s, b);
     write_line(rt, "sum ", s)
 }
 
-// a b in p, which has as many limbs as a and b together and holds 0.
-fn write_product(rt: &HostRuntime, p: &mut [u32], a: &[u32], b: &[u32]) -> io::Result<()>
-    requires { (value p.old ≡ 0) × (length p.old ≡ length a.now + length b.now) }
-{
-    wide::multiply_add(p, a, b);
-    write_line(rt, "product ", p)
+// a b, in as many limbs as a and b have together.
+fn write_product(rt: &HostRuntime, a: &[u32], b: &[u32]) -> io::Result<()> {
+    let mut p = zeros(rt, a.len() + b.len())?;
+    wide::multiply_add(&mut p, a, b);
+    write_line(rt, "product ", &p)
 }
 
-// a b + b + a in p, likewise: one less than (a + 1) (b + 1).
-fn write_product_and_sum(rt: &HostRuntime, p: &mut [u32], a: &[u32], b: &[u32]) -> io::Result<()>
-    requires { (value p.old ≡ 0) × (length p.old ≡ length a.now + length b.now) }
-{
+// a b + b + a, likewise: one less than (a + 1) (b + 1).
+fn write_product_and_sum(rt: &HostRuntime, a: &[u32], b: &[u32]) -> io::Result<()> {
+    let mut room = zeros(rt, a.len() + b.len())?;
+    let p = room.as_mut_slice();
     wide::multiply_add(p, a, b);
     wide::add_to(p, b);
     wide::add_to(p, a);
     write_line(rt, "product and sum ", p)
 }
 
-// a m in p, which has two limbs more than a and holds 0.
-fn write_product_u64(rt: &HostRuntime, p: &mut [u32], a: &[u32], m: u64) -> io::Result<()>
-    requires { (value p.old ≡ 0) × (length p.old ≡ length a.now + 2) }
-{
-    wide::multiply_add_u64(p, a, m);
-    write_line(rt, "times ", p)
+// a m, in two limbs more than a has.
+fn write_product_u64(rt: &HostRuntime, a: &[u32], m: u64) -> io::Result<()> {
+    let mut p = zeros(rt, a.len() + 2)?;
+    wide::multiply_add_u64(&mut p, a, m);
+    write_line(rt, "times ", &p)
 }
 
 // The product of two 64-bit numbers: the two lowest limbs of a, and m.
@@ -142,41 +128,38 @@ fn write_short_product(rt: &HostRuntime, a: u64, m: u64) -> io::Result<()> {
     write_line(rt, "short product ", &wide::product_u64(a, m))
 }
 
-// a + b in a's own limbs, where it fits; `room` is as long as a.
-fn write_sum_in_place(
-    rt: &HostRuntime,
-    a: &mut [u32],
-    b: &[u32],
-    room: &mut [u32],
-) -> io::Result<()>
-    requires { length room.old ≡ length a.old }
-{
-    if guards::has_room(a, b, room) {
-        wide::add_to(a, b);
-        write_line(rt, "in place ", a)
+// a + b in as many limbs as a has, where they hold it.
+fn write_sum_in_place(rt: &HostRuntime, a: &[u32], b: &[u32]) -> io::Result<()> {
+    let mut room = vec![in rt.alloc(); u32::MAX; a.len()]?;
+    if guards::has_room(a, b, &mut room) {
+        let mut sum = a.to_vec(rt.alloc())?;
+        wide::add_to(&mut sum, b);
+        write_line(rt, "in place ", &sum)
     } else {
         write_none(rt, "in place ")
     }
 }
 
 // a - b, where b is at most a.
-fn write_difference(rt: &HostRuntime, a: &mut [u32], b: &[u32]) -> io::Result<()> {
+fn write_difference(rt: &HostRuntime, a: &[u32], b: &[u32]) -> io::Result<()> {
     if wide::at_most(b, a) {
-        wide::subtract_from(a, b);
-        write_line(rt, "difference ", a)
+        let mut rest = a.to_vec(rt.alloc())?;
+        wide::subtract_from(&mut rest, b);
+        write_line(rt, "difference ", &rest)
     } else {
         write_none(rt, "difference ")
     }
 }
 
 // a / b and the remainder, where the quotient is below 2^64.
-fn write_quotient(rt: &HostRuntime, a: &mut [u32], b: &[u32]) -> io::Result<()>
+fn write_quotient(rt: &HostRuntime, a: &[u32], b: &[u32]) -> io::Result<()>
     requires { length b.now ≤ 16 }
 {
     if guards::has_short_quotient(a, b) {
-        let quotient = wide::quotient(a, b);
+        let mut rest = a.to_vec(rt.alloc())?;
+        let quotient = wide::quotient(&mut rest, b);
         print!(rt; "quotient {quotient:016x}")?;
-        write_line(rt, " rest ", a)
+        write_line(rt, " rest ", &rest)
     } else {
         write_none(rt, "quotient ")
     }

@@ -8,4 +8,6 @@ pub multiply_add-requires : goal.multiply_add-requires
 multiply_add-requires c =
     let a = c.args.a.now in
     let b = c.args.b.now in
-    room_product _ (32 * length a) (32 * length b) c.requires.0 (own_bits a c.type_inv.a) (own_bits b c.type_inv.b) (omega arith)
+    let p = c.in_ok-p.ensures in
+    rw c.deref_mut.ensures.value
+    (room_product _ (32 * length a) (32 * length b) p.0 (own_bits a c.type_inv.a) (own_bits b c.type_inv.b) (omega (arith, p.1)))

@@ -1,11 +1,10 @@
 -- Each product in 64 bits is bounded by its factors; (300 fu)^5 d^13 is the square of (300 fu)^2 d^5 times 300 fu d^3.
 use Rattle.std.proofs.Common.{◌≡◌, ℕ, ◌*◌, ◌^◌, ◌<◌, ◌≤◌, refl, ap, ◌∙◌, lt_of_lt_of_le, lt_of_le_of_lt, mul-le-mul, pow-suc, arith, lit<, lit≤, pow-add}
 use native.Mathlib.Nat.{pow-zero}
-use Rattle.wide.proofs.Bits.{product_bits}
+use Rattle.wide.proofs.Bits.{product_bits, product_fits}
 use Rattle.strength.specs.Shear.{DowelWithin}
 use Rattle.strength.specs.Working.{yield_to_the_fifth}
 use Rattle.wide.proofs.Powers.{fifth_is}
-use Rattle.strength.proofs.Room.{room, made}
 use Rattle.strength.proofs.moment.to_the_fifth.Goals as goal
 
 module _ {d fu : ℕ} (w : DowelWithin d fu) where
@@ -55,10 +54,8 @@ overflow_mul-x-3 c = record { fits = lt_of_le_of_lt (x3 c.requires) (lit< tt) }
 pub overflow_mul-x-4 : goal.overflow_mul-x-4
 overflow_mul-x-4 c = record { fits = lt_of_lt_of_le (x4 c.requires) (lit≤ tt) }
 
-pub multiply_add_u64-requires : goal.multiply_add_u64-requires
-multiply_add_u64-requires c = room _ 155 tt
-    (product_bits 122 33 (rw c.product_u64-square.ensures (product_bits 61 61 (x4 c.requires) (x4 c.requires))) (y2 c.requires))
-    tt
+pub times_u64-requires : goal.times_u64-requires
+times_u64-requires c = (lit< tt, product_fits 122 33 5 (rw c.product_u64-square.ensures (product_bits 61 61 (x4 c.requires) (x4 c.requires))) (y2 c.requires) tt)
 
 pub returns : goal.returns
-returns c = gathered _ _ _ _ _ (made _ tt c.multiply_add_u64.ensures) c.product_u64-square.ensures refl
+returns c = gathered _ _ _ _ _ c.times_u64.ensures c.product_u64-square.ensures refl

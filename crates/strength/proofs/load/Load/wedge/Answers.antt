@@ -1,8 +1,8 @@
 -- The numerator has 133 bits, the divisor 105, and their quotient is that of the definition.
 use Rattle.std.proofs.Common.{◌≡◌, ℕ, ◌+◌, ◌*◌, ◌/◌, ◌^◌, ◌<◌, ◌≤◌, ◌∙◌, ap₂, lt_of_le_of_lt, mul-le-mul_right, mul-le-mul, arith, lit<}
-use Rattle.wide.proofs.Bits.{product_bits}
+use Rattle.wide.proofs.Bits.{product_fits}
 use Rattle.strength.specs.Working.{wedge_of}
-use Rattle.strength.proofs.Room.{room, made, divided_is}
+use Rattle.strength.proofs.Room.{divided_is}
 use Rattle.strength.proofs.load.Load.wedge.Goals as goal
 
 below : (force num den root a b : ℕ) → a ≡ num * (force * root) → b ≡ den * (1073741824 + root) → 0 < den → force * num ≤ 1073741824 * den
@@ -16,16 +16,16 @@ quotient force num den root a b ea eb = ap₂ (λ (x y : ℕ). x / y) (ea ∙ om
 scaled : {force root : ℕ} → force ≤ 924960000 → root ≤ 1073741824 → force * root < 2 ^ 60
 scaled h g = lt_of_le_of_lt (mul-le-mul h g) (lit< tt)
 
-pub multiply_add_u64-requires : goal.multiply_add_u64-requires
-multiply_add_u64-requires c = room _ 133 tt (product_bits 73 60 c.args.self.now.within.num_bits (scaled c.args.self.now.within.factor c.requires)) tt
+pub times_u64-a-requires : goal.times_u64-a-requires
+times_u64-a-requires c = (lit< tt, product_fits 73 60 5 c.args.self.now.within.num_bits (scaled c.args.self.now.within.factor c.requires) tt)
 
-pub multiply_add_u64-requires-2 : goal.multiply_add_u64-requires-2
-multiply_add_u64-requires-2 c = room _ 105 tt (product_bits 73 32 c.args.self.now.within.den_bits (omega (arith, c.requires))) tt
+pub times_u64-b-requires : goal.times_u64-b-requires
+times_u64-b-requires c = (lit< tt, product_fits 73 32 4 c.args.self.now.within.den_bits (omega (arith, c.requires)) tt)
 
 pub quotient-requires : goal.quotient-requires
-quotient-requires c = below _ _ _ _ _ _ (made _ tt c.multiply_add_u64.ensures) (made _ tt c.multiply_add_u64-2.ensures) c.args.self.now.within.positive
+quotient-requires c = below _ _ _ _ _ _ c.times_u64-a.ensures c.times_u64-b.ensures c.args.self.now.within.positive
     c.args.self.now.within.bound
 
 pub returns : goal.returns
 returns c = divided_is c.quotient.ensures
-    ∙ quotient _ _ _ _ _ _ (made _ tt c.multiply_add_u64.ensures) (made _ tt c.multiply_add_u64-2.ensures)
+    ∙ quotient _ _ _ _ _ _ c.times_u64-a.ensures c.times_u64-b.ensures
