@@ -69,6 +69,7 @@ impl Iterator for Entries<'_> {
 
     ghost remaining = { item_count (λ s. entries_in s.0.now) };
 
+    #[tactic(auto, using(crate::proofs::Entries::few, crate::proofs::Entries::next))]
     fn next(&mut self) -> Option<Entry> {
         let [code, kind, low, high, rest @ ..] = self.0 else {
             return None;
