@@ -15,7 +15,7 @@ pub fn is_version(n: u16) -> bool
 }
 
 // Kind of wood: k90 depends on it.
-#[derive(Clone, Copy)]
+#[derive(Clone, Copy, PartialEq, Eq, Debug)]
 pub enum Kind {
     Softwood,
     Hardwood,
@@ -34,13 +34,13 @@ impl Kind {
 }
 
 // Characteristic density in kg/m³.
-#[derive(Clone, Copy)]
+#[derive(Clone, Copy, PartialEq, Eq, Debug)]
 pub struct Wood {
     pub kind: Kind,
     pub density: u64,
 }
 
-// What stands for the wood of a class that the table lacks.
+// What stands for the wood of a class that the table lacks. By name, and no `Default`: that would offer it for a wood like any other.
 const NO_WOOD: Wood = Wood {
     kind: Kind::Softwood,
     density: 0,
@@ -95,7 +95,7 @@ pub fn steel_strength(steel: u8) -> Option<u64>
     }
 }
 
-// kmod in hundredths.
+// kmod in hundredths. The table as it is printed: a service class, and in it the durations.
 #[tactic(auto, unfolding(crate::specs::Tables::kmod_of))]
 pub fn kmod_hundredths(service_class: u8, duration: u8) -> Option<u64>
     ensures { result ≡ kmod_of service_class duration }

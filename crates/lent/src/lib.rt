@@ -10,6 +10,7 @@ use writer::{Fields, MemberFields};
 // How many numbers a record has beside those of its dowels.
 pub const NUMBERS: usize = 27;
 
+// A member's nine numbers by their place, and below all 27: that order is fixed for C for good, and the lists say it.
 fn member_in(s: &[i32], at: usize) -> MemberFields
     requires { at + 9 ≤ length s.now }
     ensures { result ≡ member_in s.now at }
@@ -27,6 +28,7 @@ fn member_in(s: &[i32], at: usize) -> MemberFields
     }
 }
 
+#[tactic(auto, unfolding(crate::specs::Numbers::fields_in))]
 pub fn fields_in(s: &[i32]) -> Fields
     requires { 27 ≤ length s.now }
     ensures { result ≡ fields_in s.now }
@@ -46,6 +48,7 @@ pub fn fields_in(s: &[i32]) -> Fields
     }
 }
 
+#[tactic(auto, unfolding(crate::specs::Numbers::numbers_of))]
 pub fn numbers_of(f: &Fields) -> [i32; NUMBERS]
     ensures { result ≡ numbers_of f.now }
 {

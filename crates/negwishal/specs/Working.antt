@@ -1,7 +1,6 @@
 -- Nobody needs to believe this: what the steps of the entries for C promise one another.
-use Rattle.std.specs.Prelude.{ℕ, ◌≡◌, List, ℤ}
+use Rattle.std.specs.Prelude.{◌≡◌, List, ℤ}
 use Rattle.joint.specs.declared.Values.{Values}
-use Rattle.joint.specs.Refusal.{reading_of}
 use Rattle.writer.specs.Read.{marks_of}
 use Rattle.lent.specs.Lent.{front}
 
@@ -10,8 +9,3 @@ pub record Placed (v : Values) (x y marks xExit yExit marksExit : List ℤ) : Ty
   pub x_front : xExit ≡ front v.positions.x x
   pub y_front : yExit ≡ front v.positions.y y
   pub marks_front : marksExit ≡ front (marks_of v) marks
-
--- a number and values are what reading answers
-pub record IsReading (bytes : List ℕ) (number : ℕ) (values : Values) : Type 0 where
-  pub number_is : number ≡ (reading_of bytes).number
-  pub values_are : values ≡ (reading_of bytes).values

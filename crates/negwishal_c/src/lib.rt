@@ -1,4 +1,5 @@
-// The entries of `negwishal` as C sees them: each calls the entry of the same name there, and promises what that promises.
+// The entries of `negwishal` as C sees them: each calls the entry of the same name there, and promises what that promises. A crate of its own,
+// since the kit builds a crate as a library or as a static library, and not as both.
 #![tactic(auto)]
 
 ghost use Rattle.negwishal.specs.Export.{Exported};

@@ -3,7 +3,7 @@
 
 ghost use Rattle.std.specs.Prelude.{◌≡◌, ◌+◌, ◌≤◌, length};
 ghost use Rattle.std.proofs.lemmas.List.Edits.{sets};
-ghost use Rattle.numbers.specs.Numbers.{u16_at, u32_at, i32_at, u16_bytes, u32_bytes, i32_bytes, between_z, coordinate, force};
+ghost use Rattle.numbers.specs.Numbers.{u16_at, u32_at, i32_at, u16_bytes, u32_bytes, i32_bytes, coordinate, force};
 
 // One function for each type: a trait would hold the same calls of std, and a ghost member for each.
 pub fn u16_at(s: &[u8], i: usize) -> u16
@@ -28,6 +28,7 @@ pub fn i32_at(s: &[u8], i: usize) -> i32
     u32_at(s, i).cast_signed()
 }
 
+// And one for each type that is put: each is one call of std, and a trait would say as much again.
 pub fn put_u16(s: &mut [u8], i: usize, n: u16)
     requires { i + 2 ≤ length s.old }
     ensures { s.new ≡ sets s.old i (u16_bytes n) }
@@ -50,22 +51,16 @@ pub fn put_i32(s: &mut [u8], i: usize, z: i32)
     put_u32(s, i, z.cast_unsigned());
 }
 
-fn is_within(low: i32, high: i32, z: i32) -> bool
-    ensures { result ≡ between_z low high z }
-{
-    (low..=high).contains(&z)
-}
-
 #[tactic(auto, unfolding(crate::specs::Numbers::coordinate))]
 pub fn is_coordinate(z: i32) -> bool
     ensures { result ≡ coordinate z }
 {
-    is_within(-100000, 100000, z)
+    (-100000..=100000).contains(&z)
 }
 
 #[tactic(auto, unfolding(crate::specs::Numbers::force))]
 pub fn is_force(z: i32) -> bool
     ensures { result ≡ force z }
 {
-    is_within(-1000000, 1000000, z)
+    (-1000000..=1000000).contains(&z)
 }

@@ -36,6 +36,7 @@ const OUTLINE: usize = 4;
 // Where fx and fy stand in their part, after kind, service class and duration.
 const FORCE: usize = 3;
 
+// Two functions for two numbers each, of two bytes and of four: one over both widths would need a trait that says how each is put.
 fn put_pair(s: &mut [u8], at: usize, first: u16, second: u16)
     requires { at + 4 ≤ length s.old }
     ensures { s.new ≡ sets s.old at (field_bytes pair_fields (pos first ∷ pos second ∷ [])) }
@@ -53,6 +54,7 @@ fn put_point(s: &mut [u8], at: usize, x: i32, y: i32)
 }
 
 // Version, number of pairs and the pairs of a record with n dowels.
+#[tactic(auto, unfolding(crate::specs::Front::front_bytes, joint::specs::Layout::pairs_bytes))]
 fn put_front(s: &mut [u8], version: u16, n: usize)
     requires { Room n (length s.old) }
     ensures { s.new ≡ sets s.old 0 (front_bytes version n) }
@@ -79,6 +81,7 @@ fn put_outline(s: &mut [u8], at: usize, o: Outline)
 }
 
 // Class, grain, thickness, then x0, y0, x1 and y1.
+#[tactic(auto, unfolding(joint::specs::Layout::member_bytes))]
 fn put_member(s: &mut [u8], at: usize, m: &Member)
     requires { at + 20 ≤ length s.old }
     ensures { s.new ≡ sets s.old at (member_bytes m.now) }
@@ -101,6 +104,7 @@ fn put_members(s: &mut [u8], at: usize, m: &Members)
 }
 
 // Kind, diameter, steel.
+#[tactic(auto, unfolding(joint::specs::Layout::dowel_bytes))]
 fn put_dowel(s: &mut [u8], at: usize, w: Dowel)
     requires { at + 3 ≤ length s.old }
     ensures { s.new ≡ sets s.old at (dowel_bytes w) }
@@ -111,6 +115,7 @@ fn put_dowel(s: &mut [u8], at: usize, w: Dowel)
 }
 
 // x and y of each dowel.
+#[tactic(auto, unfolding(joint::specs::Layout::columns_bytes))]
 fn put_columns(s: &mut [u8], at: usize, p: &Positions)
     requires { (p.now.n ≤ 64) × (at + 8 * p.now.n ≤ length s.old) }
     ensures { s.new ≡ sets s.old at (columns_bytes p.now.x p.now.y p.now.n) }
@@ -121,6 +126,7 @@ fn put_columns(s: &mut [u8], at: usize, p: &Positions)
 }
 
 // Kind, N, then x and y of each dowel.
+#[tactic(auto, unfolding(joint::specs::Layout::positions_bytes))]
 fn put_positions(s: &mut [u8], at: usize, p: &Positions)
     requires { (p.now.n ≤ 64) × (at + 2 + 8 * p.now.n ≤ length s.old) }
     ensures { s.new ≡ sets s.old at (positions_bytes p.now) }
@@ -131,6 +137,7 @@ fn put_positions(s: &mut [u8], at: usize, p: &Positions)
 }
 
 // Kind, service class, duration, then fx and fy.
+#[tactic(auto, unfolding(joint::specs::Layout::loads_bytes))]
 fn put_loads(s: &mut [u8], at: usize, l: Loads)
     requires { at + 11 ≤ length s.old }
     ensures { s.new ≡ sets s.old at (loads_bytes l) }
@@ -141,6 +148,7 @@ fn put_loads(s: &mut [u8], at: usize, l: Loads)
     put_point(s, at + FORCE, l.fx, l.fy);
 }
 
+#[tactic(auto, using(crate::proofs::Whole::whole))]
 pub fn put_record(buffer: &mut [u8], v: &Values)
     requires { Room v.now.positions.n (length buffer.old) }
     ensures { buffer.new ≡ bytes_of v.now ++ drop (length (bytes_of v.now)) buffer.old }

@@ -28,18 +28,20 @@ impl Entry {
     {
         (self.kind <= LAST_KIND) & (LEAST_DENSITY..=MOST_DENSITY).contains(&self.density)
     }
+}
 
-    pub(crate) fn wood(self) -> Wood
-        ensures { Some result ≡ class_of self }
-    {
-        let kind = if self.kind == 0 {
+impl From<Entry> for Wood {
+    ghost from_gives = { λ e w. Some w ≡ class_of e };
+
+    fn from(e: Entry) -> Wood {
+        let kind = if e.kind == 0 {
             Kind::Softwood
         } else {
             Kind::Hardwood
         };
         Wood {
             kind,
-            density: self.density.into(),
+            density: e.density.into(),
         }
     }
 }
@@ -67,6 +69,7 @@ impl Iterator for Entries<'_> {
 
     ghost remaining = { item_count (λ s. entries_in s.0.now) };
 
+    #[tactic(auto, using(crate::proofs::Entries::few, crate::proofs::Entries::next))]
     fn next(&mut self) -> Option<Entry> {
         let [code, kind, low, high, rest @ ..] = self.0 else {
             return None;

@@ -11,7 +11,7 @@ ghost use Rattle.tables.specs.Told.{number_of, told};
 
 use chain::Width;
 use codes::Wood;
-use entry::{ENTRY_BYTES, Entries, Entry};
+use entry::{ENTRY_BYTES, Entries};
 use numbers::u16_at;
 
 // How many pairs a table has, where it stands, and where the entries start: right after the pair.
@@ -93,7 +93,7 @@ pub fn load(table: &[u8]) -> Result<(), Refusal>
 fn own_class(table: &[u8], code: u8) -> Option<Wood>
     ensures { result ≡ class_in (own_table table.now).classes code }
 {
-    Entries::of(table).find(|e| code == e.code).map(Entry::wood)
+    Entries::of(table).find(|e| code == e.code).map(Wood::from)
 }
 
 // Which table a call uses: the printed one, or the firm's own.

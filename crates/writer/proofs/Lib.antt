@@ -4,4 +4,4 @@ pub mod Made
 pub mod Back
 pub mod Size
 pub mod Round
-mod Unsigned
+mod Placed

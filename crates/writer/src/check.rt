@@ -6,6 +6,8 @@ ghost use Rattle.writer.specs.Working.{fits_byte, fits_two_bytes, member_fits, f
 use crate::{Fields, MemberFields};
 use joint::{Dowel, Loads, MOST_DOWELS, Member, Members, Outline, Positions, Values};
 
+// One for each width, which promises its field's limits: one over `T: TryFrom<i32>` could promise only what that type's `try_from` gives, and
+// each place that calls it would work the limits out again.
 fn byte_from(z: &i32) -> Option<u8>
     ensures { result ≡ fitting (fits_byte z.now) (nat_abs z.now) }
 {
@@ -19,17 +21,14 @@ fn two_bytes_from(z: &i32) -> Option<u16>
 }
 
 // The version, a number of any size, where it is known.
+#[tactic(auto, unfolding(crate::specs::Write::version_unknown))]
 pub(crate) fn known_version(f: &Fields) -> Option<u16>
     ensures { result ≡ fitting (not (version_unknown f.now)) (nat_abs f.now.version) }
 {
-    let version = two_bytes_from(&f.version)?;
-    if codes::is_version(version) {
-        Some(version)
-    } else {
-        None
-    }
+    two_bytes_from(&f.version).filter(|version| codes::is_version(*version))
 }
 
+#[tactic(auto, unfolding(crate::specs::Working::member_fits))]
 fn member_from(m: &MemberFields) -> Option<Member>
     ensures { result ≡ fitting (member_fits m.now) (member_from m.now) }
 {
@@ -47,17 +46,17 @@ fn member_from(m: &MemberFields) -> Option<Member>
 }
 
 // A list's numbers, and then 0.
+#[tactic(auto, using(crate::proofs::Placed::in_places))]
 fn placed(l: &[i32]) -> [i32; MOST_DOWELS]
     requires { length l.now ≤ 64 }
     ensures { result ≡ placed l.now }
 {
     let mut places = [0i32; MOST_DOWELS];
-    for i in 0..l.len() {
-        places[i] = l[i];
-    }
+    places[..l.len()].copy_from_slice(l);
     places
 }
 
+#[tactic(auto, unfolding(crate::specs::Working::fields_fit, crate::specs::Write::values_from))]
 pub(crate) fn values_from(version: u16, f: &Fields, x: &[i32], y: &[i32]) -> Option<Values>
     requires known { version ≡ nat_abs f.now.version }
     requires few { (length x.now ≤ 64) × (length y.now ≤ 64) }

@@ -14,9 +14,6 @@ use joint::places::POSITION_BYTES;
 use joint::refusals::Refusal;
 use put::put_record;
 
-// The number of the writer's own refusal; the others are those of a record's values.
-pub const BUFFER_TOO_SHORT: u8 = 13;
-
 // Bytes of a record without dowels.
 const RECORD_BYTES: usize = 78;
 
@@ -60,12 +57,13 @@ pub enum Unwritten {
 impl Unwritten {
     ghost use Rattle.writer.specs.Told.{number_of};
 
+    // A refusal of the values keeps its number, and the writer has one of its own.
     pub fn number(self) -> u8
         ensures { result ≡ number_of self }
     {
         match self {
             Unwritten::Values(refusal) => refusal.number(),
-            Unwritten::BufferTooShort => BUFFER_TOO_SHORT,
+            Unwritten::BufferTooShort => 13,
         }
     }
 }
@@ -82,7 +80,7 @@ impl From<Refusal> for Unwritten {
 
 // Writes the record of a firm's numbers, in the version that they name, into the buffer's first bytes and reports how many. The tests of a
 // record's values come first, and then whether the buffer is long enough; on refusal the buffer stays as it is. Version 1 has no marks, and
-// they are not looked at.
+// they are not looked at. A list for each of x, y and marks, since C lends them so.
 pub fn write(
     f: &Fields,
     x: &[i32],

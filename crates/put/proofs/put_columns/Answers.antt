@@ -3,7 +3,7 @@ use borrow.Author.Rules.{rules}
 use lib.IntN.{pos}
 use lib.ListN.{get_or}
 use mathlib.Core.List.{[], ◌∷◌}
-use mathlib.Core.Path.{◌≡◌, refl}
+use mathlib.Core.Path.{◌≡◌}
 use mir.Syntax.{w32}
 use mir.Val.{of_z, to_z}
 use native.Mathlib.Numerals.{add-one}
@@ -12,10 +12,6 @@ use Rattle.numbers.proofs.Bytes.{next}
 use Rattle.joint.specs.Layout.{position_fields, columns_bytes}
 use Rattle.put.proofs.Lengths.{columns_length}
 use Rattle.put.proofs.put_columns.Goals as goal
-
-pub loop-i-init : goal.loop-i-init
-unfolding columns_bytes
-loop-i-init c = record { is = refl }
 
 pub loop-i-preserved : goal.loop-i-preserved
 unfolding columns_bytes
