@@ -1,21 +1,17 @@
 -- What the program reports, from what `judge` ensures.
-use Prim.Native.Nat.{ℕ, ◌≤◌}
+use Prim.Native.Nat.{ℕ}
 use mathlib.Core.Path.{◌≡◌, refl, ◌∙◌, ap, sym, subst}
 use mathlib.Core.Bool.{Bool, true, false, cond, not, ◌||◌}
-use mathlib.Core.List.{List}
+use mathlib.Core.List.{List, []}
+use Rattle.arrayvec.specs.ArrayString.{ArrayString}
 use lib.ListN.{take}
 use lib.Dec.{eqb}
-use native.Mathlib.Omega.{arith}
 use Rattle.joint.specs.Answer.{Report}
 use Rattle.joint.specs.Returned.{unanswered, report_of}
 use Rattle.joint.proofs.Claims.{judged}
 use Rattle.spacing.specs.Verdict.{fault}
-use Rattle.line.specs.Line.{Lined}
 use Rattle.std.specs.Prelude.{Some, None, is_some}
-use Rattle.joint.specs.declared.report.Judgement.{Judgement}
-use Rattle.joint.specs.Told.{told}
-use Rattle.console.specs.declared.Reply.{Reply}
-use Rattle.console.specs.Input.{Came, report_in, count_of, failed, unread, Bare, InputJudged, Said, line_when, Told, Replied, input_report, InputReported}
+use Rattle.console.specs.Input.{Came, report_in, count_of, failed, unread, Bare, InputJudged, Said, line_when, Told, input_report, InputReported}
 
 pub bare : (number : ℕ) (r : Report) → r ≡ unanswered (fault number 0 0 0) → Bare number r
 unfolding unanswered
@@ -62,42 +58,15 @@ pub unread_is : (first second : Came) (a b t : Bool) → a ≡ failed first → 
 unread_is first second a b t p q h = (λ i. sym p i || sym q i) ∙ h
 
 -- nothing judged, and no line
-pub not_told : (first second : Came) (buffer line : List ℕ) (count next : ℕ) → count ≡ count_of first → next ≡ count_of second
-    → unread first second ≡ true
+pub not_told : (first second : Came) (buffer : List ℕ) (line : ArrayString) (count next : ℕ) → count ≡ count_of first
+    → next ≡ count_of second → unread first second ≡ true → line.bytes ≡ []
     → Told first second buffer
-    (record { first = first; second = second; count = count; more = not (eqb next 0); judgement = None; line = line; length = 0 })
-not_told first second buffer line count next p q u = record {
+    (record { first = first; second = second; count = count; more = not (eqb next 0); judgement = None; line = line })
+not_told first second buffer line count next p q u e = record {
   asked = refl;
   asked_more = refl;
   count = p;
   more = ap (λ (n : ℕ). not (eqb n 0)) q;
   report = subst (λ (b : Bool). Said b buffer count (not (eqb next 0)) (report_in None)) (sym u) (bare 0 (report_in None) refl);
-  within = omega arith;
-  counted = refl;
-  line = ap (λ (b : Bool). line_when b (report_in None)) (sym u);
-}
-
--- a judgement with its line
-pub is_told : (first second : Came) (buffer line : List ℕ) (count next n : ℕ) (j : Judgement) → count ≡ count_of first
-    → next ≡ count_of second → unread first second ≡ false → told j ≡ input_report buffer count (not (eqb next 0)) → Lined (told j) line n
-    → Told first second buffer
-    (record { first = first; second = second; count = count; more = not (eqb next 0); judgement = Some j; line = line; length = n })
-is_told first second buffer line count next n j p q u e made = record {
-  asked = refl;
-  asked_more = refl;
-  count = p;
-  more = ap (λ (m : ℕ). not (eqb m 0)) q;
-  report = subst (λ (b : Bool). Said b buffer count (not (eqb next 0)) (told j)) (sym u) (input_says buffer count (not (eqb next 0)) (told j) e);
-  within = made.within;
-  counted = made.counted;
-  line = made.line ∙ ap (λ (b : Bool). line_when b (told j)) (sym u);
-}
-
--- of what came, as the reply keeps it
-pub replied : (first second : Came) (buffer : List ℕ) (a : Reply) → Told first second buffer a → count_of first ≤ 4096 → Replied buffer a
-replied first second buffer a t most = record {
-  told =
-      subst (λ (x : Came). Told x a.second buffer a) (sym t.asked)
-      (subst (λ (x : Came). Told first x buffer a) (sym t.asked_more) t);
-  most = omega (arith, t.count, most);
+  line = e ∙ ap (λ (b : Bool). line_when b (report_in None)) (sym u);
 }

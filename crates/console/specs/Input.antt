@@ -1,5 +1,5 @@
 -- Document 01, 'Printing': what the program makes of its input.
-use Rattle.std.specs.Prelude.{ℕ, ◌≤◌, ◌≡◌, Bool, true, false, cond, not, ◌||◌, List, [], length, take, eqb, Option, Some, None, is_none, unwrap_or}
+use Rattle.std.specs.Prelude.{ℕ, ◌≤◌, ◌≡◌, Bool, true, false, cond, not, ◌||◌, List, [], take, eqb, Option, Some, None, is_none, unwrap_or}
 use Rattle.joint.specs.Answer.{Report}
 use Rattle.joint.specs.Claim.{Judged, Unanswered}
 use Rattle.joint.specs.Returned.{unanswered, report_of}
@@ -62,9 +62,7 @@ pub record Told (first second : Came) (buffer : List ℕ) (a : Reply) : Type 0 w
   pub count : a.count ≡ count_of first
   pub more : a.more ≡ more_of second
   pub report : Said (unread first second) buffer a.count a.more (report_in a.judgement)
-  pub within : a.length ≤ length a.line
-  pub counted : a.length ≡ length (take a.length a.line)
-  pub line : take a.length a.line ≡ line_when (unread first second) (report_in a.judgement)
+  pub line : a.line.bytes ≡ line_when (unread first second) (report_in a.judgement)
 
 -- 'The program reads standard input up to 4,096 bytes'
 pub record Replied (buffer : List ℕ) (a : Reply) : Type 0 where

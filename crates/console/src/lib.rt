@@ -1,10 +1,10 @@
 // One joint record from a reader, answered by one line on standard output (01, 'Printing').
 #![tactic(auto)]
 
-ghost use Rattle.std.specs.Prelude.{◌≡◌, ◌≤◌, length};
 ghost use Rattle.joint.specs.Told.{told as told_of};
-ghost use Rattle.console.specs.Input.{count_of, InputReported, Told, Replied};
+ghost use Rattle.console.specs.Input.{InputReported, Told, Replied};
 
+use arrayvec::ArrayString;
 use joint::refusals::{Refusal, Rejection};
 use joint::report::Judgement;
 use line::LONGEST;
@@ -16,7 +16,7 @@ pub const MOST_BYTES: usize = 4096;
 
 // What came of two reads, at first, until the buffer was full or the input ended, and when one byte more was asked for: some bytes, none at
 // the end of the input, or `None` where a read failed. Then what follows from that: how many bytes are in the buffer, whether more came, what
-// they are told, and the line of that with its length. Where a read failed nothing is told and the length is 0.
+// they are told, and the line of that. Where a read failed nothing is told and the line is empty.
 #[derive(Clone, Copy)]
 pub struct Reply {
     pub first: Option<usize>,
@@ -24,50 +24,24 @@ pub struct Reply {
     pub count: usize,
     pub more: bool,
     pub judgement: Option<Judgement>,
-    pub line: [u8; LONGEST],
-    pub length: usize,
+    pub line: ArrayString<LONGEST>,
 }
 
 // The program's rule: the first `count` bytes of a buffer are judged, but where more came than the program reads, that is refusal 4
-// before any other test.
+// before any other test. Buffer, count and flag stay apart: a count beyond the buffer means the whole of it (docs/DECISIONS.md).
 pub fn judge_input(buffer: &[u8], count: usize, more: bool) -> Judgement
     ensures { InputReported buffer.now count more (told_of result) }
 {
     if more {
         return Judgement::Refused(Rejection::Record(Refusal::PairsAgainstRule));
     }
-    if count < buffer.len() {
-        return joint::judge(&buffer[..count]);
-    }
-    joint::judge(buffer)
-}
-
-// One read into a part of the buffer.
-fn read_part<R: Read>(from: &mut R, part: &mut [u8]) -> Option<usize>
-    ensures { count_of result ≤ length part.old }
-{
-    from.read(part).ok()
-}
-
-// Reads again and again until the buffer is full, the input ends or a read fails.
-fn fill<R: Read>(from: &mut R, buffer: &mut [u8]) -> Option<usize>
-    ensures { count_of result ≤ length buffer.old }
-{
-    let mut done = 0;
-    while done < buffer.len() {
-        let n = read_part(from, &mut buffer[done..])?;
-        if n == 0 {
-            return Some(done);
-        }
-        done += n;
-    }
-    Some(done)
+    joint::judge(&buffer[..count.min(buffer.len())])
 }
 
 // One byte more, where no read before it failed.
 fn one_more<R: Read>(from: &mut R, first: Option<usize>) -> Option<usize> {
     first?;
-    read_part(from, &mut [0u8; 1])
+    from.read(&mut [0u8; 1]).ok()
 }
 
 // What the program answers where `first` came, and `second` when one byte more was asked for.
@@ -76,7 +50,6 @@ pub fn told(first: Option<usize>, second: Option<usize>, buffer: &[u8]) -> Reply
 {
     let count = first.unwrap_or(0);
     let more = second.unwrap_or(0) != 0;
-    let mut line = [0u8; LONGEST];
     if first.is_none() | second.is_none() {
         return Reply {
             first,
@@ -84,20 +57,17 @@ pub fn told(first: Option<usize>, second: Option<usize>, buffer: &[u8]) -> Reply
             count,
             more,
             judgement: None,
-            line,
-            length: 0,
+            line: ArrayString::new(),
         };
     }
     let judgement = judge_input(buffer, count, more);
-    let length = line::line_of(judgement, &mut line);
     Reply {
         first,
         second,
         count,
         more,
         judgement: Some(judgement),
-        line,
-        length,
+        line: line::line_of(judgement),
     }
 }
 
@@ -105,12 +75,12 @@ pub fn told(first: Option<usize>, second: Option<usize>, buffer: &[u8]) -> Reply
 pub fn judged<R: Read>(from: &mut R, buffer: &mut [u8; MOST_BYTES]) -> Reply
     ensures { Replied buffer.new result }
 {
-    let first = fill(from, buffer);
+    let first = intake::fill(from, buffer).ok();
     let second = one_more(from, first);
     told(first, second, buffer)
 }
 
-// A reader that keeps why its last failed read failed, which `Came` does not say.
+// A reader that keeps why its last failed read failed, which `None` does not say.
 #[derive(Drop)]
 pub struct Noting<R> {
     from: R,
@@ -151,13 +121,9 @@ pub fn answer<P: Print + Eprint + Alloc, R: Read>(
 {
     let mut from = Noting::new(from);
     let a = judged(&mut from, buffer);
-    let line = a.line;
-    let length = a.length;
-    if length == 0 {
+    if a.line.is_empty() {
         from.tell(rt, "standard input");
-        return a;
-    }
-    if let Err(error) = rt.write_all(&line[..length]) {
+    } else if let Err(error) = rt.write_all(a.line.as_str().as_bytes()) {
         failure::fail(rt, "standard output", error);
     }
     a

@@ -8,6 +8,7 @@ fn main(rt: HostRuntime) {
         let _ = eprintln!(rt; "usage: dowel < RECORD");
         return;
     }
+    // An array and no `Vec`: the zeroed buffer is asked for by name, and judging asks for no memory.
     let mut buffer = [0u8; 4096];
     console::answer(&rt, &mut rt.stdin(), &mut buffer);
 }

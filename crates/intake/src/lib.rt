@@ -1,7 +1,7 @@
 // The files that a program's arguments name: opened, or told to standard error, and read as far as they can be.
 #![tactic(auto)]
 
-ghost use Rattle.std.specs.Prelude.{◌≡◌, ◌≤◌, length, vec_len, IfSome, IfOk};
+ghost use Rattle.std.specs.Prelude.{◌≡◌, ◌≤◌, ◌<◌, length, vec_len, IfSome, IfOk, IfErr};
 
 use std::alloc::{AllocError, Global};
 use std::env::Env;
@@ -9,7 +9,8 @@ use std::fs::File;
 use std::io::{ErrorKind, Read};
 use std::{io, str};
 
-// The longest name that a file may have, and how many are read at most.
+// The longest name that a file may have, and how many are read at most. A name is read into an array: `env::arg` wants lent room for it,
+// and so no memory is asked for.
 const LONGEST_NAME: usize = 4096;
 
 const MOST_FILES: usize = 1000;
@@ -66,27 +67,30 @@ pub fn open(rt: &HostRuntime, path: &str) -> Option<File> {
     }
 }
 
-// One read; where it fails, nothing was read.
-fn read_some<R: Read>(from: &mut R, part: &mut [u8]) -> usize
-    ensures { result ≤ length part.old }
-{
-    from.read(part).unwrap_or(0)
-}
-
-// Reads until the buffer is full, the input ends or a read fails, and answers how many bytes stand at the buffer's start. std's `read_exact`
-// and `read_to_end` would not say how many those are where a read fails.
-pub fn read_full<R: Read>(from: &mut R, buffer: &mut [u8]) -> usize
-    ensures { result ≤ length buffer.new }
+// Reads until the buffer is full, the input ends or a read fails, and answers how many bytes stand at the buffer's start: `Err` where a
+// read failed, which leaves room. By a `while`: std's `read_exact` would not say how many those are, and `read_to_end` wants memory.
+pub fn fill<R: Read>(from: &mut R, buffer: &mut [u8]) -> Result<usize, usize>
+    ensures ok { IfOk result (λ n. n ≤ length buffer.new) }
+    ensures err { IfErr result (λ n. n < length buffer.new) }
 {
     let mut done = 0;
     while done < buffer.len() {
-        let n = read_some(from, &mut buffer[done..]);
+        let n = from.read(&mut buffer[done..]).map_err(|_| done)?;
         if n == 0 {
-            return done;
+            break;
         }
         done += n;
     }
-    done
+    Ok(done)
+}
+
+// The same, whether a read failed or not.
+pub fn read_full<R: Read>(from: &mut R, buffer: &mut [u8]) -> usize
+    ensures { result ≤ length buffer.new }
+{
+    match fill(from, buffer) {
+        Ok(n) | Err(n) => n,
+    }
 }
 
 // What is read until there are `most` bytes, the input ends or a read fails.

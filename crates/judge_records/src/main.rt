@@ -13,11 +13,9 @@ fn main(rt: HostRuntime) {
 }
 
 // Writes a file's name and its line together, by one write.
-fn write_named(rt: &HostRuntime, name: &str, line: &[u8]) -> io::Result<()> {
-    let mut text = Vec::from_slice(rt.alloc(), name.as_bytes())?;
-    text.extend_from_slice(b": ")?;
-    text.extend_from_slice(line)?;
-    rt.write_all(&text)
+fn write_named(rt: &HostRuntime, name: &str, line: &str) -> io::Result<()> {
+    let text = format!(in rt.alloc(); "{name}: {line}")?;
+    rt.write_all(text.as_bytes())
 }
 
 // Writes the line of a file. What fails is told to standard error, and the next file is judged.
@@ -25,11 +23,9 @@ fn judge_file(rt: &HostRuntime, path: &str, opened: File) {
     let mut file = Noting::new(opened);
     let mut buffer = [0u8; 4096];
     let a = console::judged(&mut file, &mut buffer);
-    let line = a.line;
-    let n = a.length;
-    if n == 0 {
+    if a.line.is_empty() {
         file.tell(rt, path);
-    } else if let Err(error) = write_named(rt, path, &line[..n]) {
+    } else if let Err(error) = write_named(rt, path, a.line.as_str()) {
         failure::fail(rt, "standard output", error);
     }
 }

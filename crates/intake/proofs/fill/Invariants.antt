@@ -1,6 +1,6 @@
 -- What was read so far is in the buffer.
 use Rattle.std.proofs.Common.{length, ◌-◌, ◌≤◌}
-use Rattle.intake.proofs.read_full.Given as goal
+use Rattle.intake.proofs.fill.Given as goal
 
 abbrev pub invariant-loop-done : goal.invariant-loop-done
 invariant-loop-done g l = l.done ≤ length l.initial.buffer
