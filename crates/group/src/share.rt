@@ -46,9 +46,7 @@ fn scaled(a1: u64) -> [u32; 12]
     ensures { value result ≡ units * a1 ^ 5 }
 {
     let power = product(1, a1);
-    let mut scaled = [0u32; 12];
-    wide::multiply_add(&mut scaled, &UNITS, &power);
-    scaled
+    wide::product(&UNITS, &power)
 }
 
 // Whether e^20 q is at most n.
