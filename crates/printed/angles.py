@@ -1,5 +1,5 @@
 #!/usr/bin/env python3
-# Prints the arms of `cos_squared` (src/tables.rt): for 0°, 5°, .. 90° the nearest whole number to 10^12 cos²φ = 10^12 (1 + cos 2φ)/2.
+# Prints the numbers of `COS_SQUARED` (src/tables.rt): for 0°, 5°, .. 90° the nearest whole number to 10^12 cos²φ = 10^12 (1 + cos 2φ)/2.
 from decimal import Decimal, getcontext
 
 getcontext().prec = 60
@@ -18,4 +18,4 @@ def cos(x):
 
 
 for angle in range(19):
-    print(angle, "=>", round(10**12 * (1 + cos(PI * 10 * angle / 180)) / 2))
+    print(f"    {round(10**12 * (1 + cos(PI * 10 * angle / 180)) / 2)},")

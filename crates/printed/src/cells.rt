@@ -1,5 +1,5 @@
 // A cell of the tables compared with the capacity of its shear plane: C24 and S235, kmod 0.8 and γM 1.3.
-ghost use Rattle.std.specs.Prelude.{ℕ, ◌≤◌, ◌<◌};
+ghost use Rattle.std.specs.Prelude.{◌≤◌};
 ghost use Rattle.strength.specs.Shear.{MemberWithin};
 
 use crate::tables;
@@ -17,8 +17,16 @@ const STEEL: u64 = 360;
 // The unit of cos²: 10^12.
 const TOTAL: u64 = 1000000000000;
 
-// The thickest member that the capacity is worked out for, in tenths of a mm: there the first term decides alone.
-const THICK: u64 = 4000;
+// A thickness in tenths of a mm, for which the capacity is worked out.
+#[derive(Clone, Copy)]
+struct Thickness {
+    tenths: u64,
+    ghost low: { 200 ≤ tenths },
+    ghost high: { tenths ≤ 4000 },
+}
+
+// The thickest member that the capacity is worked out for: there the first term decides alone.
+const THICK: Thickness = Thickness { tenths: 4000 };
 
 // More thousandths of a newton than any cell has.
 const BEYOND: u64 = 100000000;
@@ -67,8 +75,8 @@ fn setting_of(table: Table, group: usize) -> Setting {
     }
 }
 
-fn member(diameter: u8, along: u64, thickness: u64) -> Timber
-    requires { (diameter ≤ 24) × (along ≤ 1000000000000) × (200 ≤ thickness) × (thickness ≤ 4000) }
+fn member(diameter: u8, along: u64, thickness: Thickness) -> Timber
+    requires { (diameter ≤ 24) × (along ≤ 1000000000000) }
     ensures { MemberWithin result }
 {
     Timber {
@@ -76,14 +84,12 @@ fn member(diameter: u8, along: u64, thickness: u64) -> Timber
         k90: Kind::Softwood.k90(diameter),
         along,
         total: TOTAL,
-        thickness,
+        thickness: thickness.tenths,
     }
 }
 
-// The capacity in thousandths of a newton for two thicknesses in tenths of a mm.
-fn capacity_at(s: Setting, member1: u64, member2: u64) -> u64
-    requires { (200 ≤ member1) × (member1 ≤ 4000) × (200 ≤ member2) × (member2 ≤ 4000) }
-{
+// The capacity in thousandths of a newton for two thicknesses.
+fn capacity_at(s: Setting, member1: Thickness, member2: Thickness) -> u64 {
     capacity::capacity_thousandths(Plane {
         member1: member(s.diameter, s.member1, member1),
         member2: member(s.diameter, s.member2, member2),
@@ -94,10 +100,8 @@ fn capacity_at(s: Setting, member1: u64, member2: u64) -> u64
 }
 
 // Whether c thousandths of a newton round to a force in hundredths of a kN.
-fn rounds_to(c: u64, print: u64) -> bool
-    requires { print ≤ 65536 }
-{
-    let exact = print * HUNDREDTH;
+fn rounds_to(c: u64, print: u16) -> bool {
+    let exact = u64::from(print) * HUNDREDTH;
     if c < exact {
         exact - c <= HUNDREDTH / 2
     } else {
@@ -106,29 +110,28 @@ fn rounds_to(c: u64, print: u64) -> bool
 }
 
 // The force: c and c + 2, between which 1000 R lies, both round to the print.
-fn force_differs(s: Setting, print: u64) -> bool
-    requires { print ≤ 65536 }
-{
+fn force_differs(s: Setting, print: u16) -> bool {
     let c = capacity_at(s, THICK, THICK);
     BEYOND < c || !rounds_to(c, print) || !rounds_to(c + 2, print)
 }
 
 // A least thickness, with the capacity at a thickness of its member: half a mm above the print the first term decides, half a mm
 // below it not.
-fn thickness_differs<F: Fn(u64) -> u64>(s: Setting, print: u64, capacity_with: F) -> bool
-    requires { (thickness : ℕ) → 200 ≤ thickness → thickness ≤ 4000 → F.pre capacity_with thickness }
+fn thickness_differs<F: Fn(Thickness) -> u64>(s: Setting, print: u16, capacity_with: F) -> bool
+    requires { F.IsAlwaysCallable capacity_with }
 {
     if print < 21 || 399 < print {
         return true;
     }
     let first = capacity_at(s, THICK, THICK);
-    capacity_with(10 * print + 5) != first || first <= capacity_with(10 * print - 5)
+    let tenths = 10 * u64::from(print);
+    let above = Thickness { tenths: tenths + 5 };
+    let below = Thickness { tenths: tenths - 5 };
+    capacity_with(above) != first || first <= capacity_with(below)
 }
 
 // Whether a cell differs: the force, the least thickness of the side member or that of the other.
-pub fn differs(table: Table, cell: usize, altered: Option<usize>) -> bool
-    requires { cell < 285 }
-{
+pub fn differs(table: Table, cell: usize, altered: Option<usize>) -> bool {
     let s = setting_of(table, cell / 3);
     let print = tables::printed(table, cell, altered);
     match cell % 3 {

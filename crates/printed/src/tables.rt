@@ -1,6 +1,7 @@
 // 001, Tables 13-5, 13-6 and 13-7, typed as printed: for each angle φ of 0°, 5°, .. 90°, and in it for each diameter of 10, 12, 16, 20 and
 // 24 mm, a group of three cells: F_v,Rd,Joh in hundredths of a kN, and the least thicknesses t1,req and t2,req in mm.
-ghost use Rattle.std.specs.Prelude.{◌≤◌, ◌<◌};
+ghost use Rattle.std.specs.Prelude.{◌≡◌, ◌≤◌};
+ghost use Rattle.printed.specs.Cells.{cell_of};
 
 #[derive(Clone, Copy)]
 pub enum Table {
@@ -366,62 +367,72 @@ const SIDES_TURNED: [[u16; 3]; 95] = [
     [1273, 153, 79],
 ];
 
-// A group of a table.
-fn group_at(table: Table, group: usize) -> [u16; 3]
-    requires { group < 95 }
+// The diameters of the columns in mm.
+const DIAMETERS: [u8; 5] = [10, 12, 16, 20, 24];
+
+// cos²φ of the angles in units of 10^-12: the nearest whole numbers, worked out elsewhere.
+const COS_SQUARED: [u64; 19] = [
+    1000000000000,
+    992403876506,
+    969846310393,
+    933012701892,
+    883022221559,
+    821393804843,
+    750000000000,
+    671010071663,
+    586824088833,
+    500000000000,
+    413175911167,
+    328989928337,
+    250000000000,
+    178606195157,
+    116977778441,
+    66987298108,
+    30153689607,
+    7596123494,
+    0,
+];
+
+// A cell of a table's groups, 0 past the last one.
+#[tactic(auto, unfolding(crate::specs::Cells::cell_of))]
+fn cell_of(groups: &[[u16; 3]], cell: usize) -> u16
+    ensures { result ≡ cell_of groups.now cell }
+{
+    match groups.get(cell / 3) {
+        Some(group) => group[cell % 3],
+        None => 0,
+    }
+}
+
+// A cell of a table as it is printed, 0 past the last one.
+fn cell_at(table: Table, cell: usize) -> u16
+    ensures { result ≤ 1482 }
 {
     match table {
-        Table::Single => SINGLE[group],
-        Table::MiddleTurned => MIDDLE_TURNED[group],
-        Table::SidesTurned => SIDES_TURNED[group],
+        Table::Single => cell_of(&SINGLE, cell),
+        Table::MiddleTurned => cell_of(&MIDDLE_TURNED, cell),
+        Table::SidesTurned => cell_of(&SIDES_TURNED, cell),
     }
 }
 
 // A cell of a table, with one unit more where it is the altered one.
-pub fn printed(table: Table, cell: usize, altered: Option<usize>) -> u64
-    requires { cell < 285 }
-    ensures { result ≤ 65536 }
+pub fn printed(table: Table, cell: usize, altered: Option<usize>) -> u16
+    ensures { result ≤ 1483 }
 {
-    let x = u64::from(group_at(table, cell / 3)[cell % 3]);
+    let x = cell_at(table, cell);
     if altered == Some(cell) { x + 1 } else { x }
 }
 
-// The diameter of a column in mm.
+// The diameter of a column in mm, the last one past the last column.
 pub fn diameter(column: usize) -> u8
     ensures { (10 ≤ result) × (result ≤ 24) }
 {
-    match column {
-        0 => 10,
-        1 => 12,
-        2 => 16,
-        3 => 20,
-        _ => 24,
-    }
+    DIAMETERS.get(column).copied().unwrap_or(24)
 }
 
-// cos²φ of an angle, by its place, in units of 10^-12: the nearest whole number, worked out elsewhere.
+// cos²φ of an angle, by its place, 0 past the last angle.
 pub fn cos_squared(angle: usize) -> u64
     ensures { result ≤ 1000000000000 }
 {
-    match angle {
-        0 => 1000000000000,
-        1 => 992403876506,
-        2 => 969846310393,
-        3 => 933012701892,
-        4 => 883022221559,
-        5 => 821393804843,
-        6 => 750000000000,
-        7 => 671010071663,
-        8 => 586824088833,
-        9 => 500000000000,
-        10 => 413175911167,
-        11 => 328989928337,
-        12 => 250000000000,
-        13 => 178606195157,
-        14 => 116977778441,
-        15 => 66987298108,
-        16 => 30153689607,
-        17 => 7596123494,
-        _ => 0,
-    }
+    COS_SQUARED.get(angle).copied().unwrap_or(0)
 }

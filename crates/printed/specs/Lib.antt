@@ -1,0 +1,2 @@
+-- What the contracts of `printed` speak of.
+pub mod Cells
