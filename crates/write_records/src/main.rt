@@ -95,10 +95,8 @@ impl<'a> Case<'a> {
     fn length(self, k: usize, most: usize) -> usize
         ensures { result ≤ most }
     {
-        match self.number(k) {
-            Some(n) => most.min(n.cast_unsigned() as usize),
-            None => most,
-        }
+        self.number(k)
+            .map_or(most, |n| most.min(n.cast_unsigned() as usize))
     }
 
     // The numbers from k on, 0 past the end: as many as number `count_at` names.
