@@ -45,8 +45,8 @@ fn continues(offset: usize, bytes: usize, start: usize) -> bool
 // Whether `count` pairs, from byte `at` on, lay parts end to end from byte `first` to the end of `s`. Puts into `bounds` where each part
 // starts, and after that where the last one ends, by the pairs as they stand.
 // The list is lent and the answer a bool, since the bounds are promised of a broken chain too, and how many there are is the caller's: so
-// `whole` runs along, and the loop goes on where a pair breaks off. No struct holds the layout: width, places and count are constants of each
-// caller, which no two share.
+// `whole` runs along, and the loop goes on where a pair breaks off. No struct holds the rest: width, places and count are written once, as
+// constants of each caller, and the bytes and the list are lent.
 pub fn read(
     s: &[u8],
     width: Width,

@@ -70,40 +70,41 @@ impl Lists<'_> {
     }
 }
 
-// The numbers of a case.
+// The numbers of a case, each in its four bytes.
 #[derive(Clone, Copy)]
-struct Case<'a>(&'a [u8]);
+struct Case<'a>(&'a [[u8; 4]]);
 
-impl Case<'_> {
-    // Number k, where the file has one.
-    fn number(self, k: usize) -> Option<i32>
-        requires { k ≤ 1000 }
-    {
-        let at = 4 * k;
-        if self.0.len() < at + 4 {
-            return None;
-        }
-        Some(numbers::i32_at(self.0, at))
+impl<'a> Case<'a> {
+    // Those of a file; bytes past the last whole number are none.
+    fn of(bytes: &'a [u8]) -> Self {
+        let (whole, _) = bytes.as_chunks();
+        Case(whole)
+    }
+
+    // Those from number k on.
+    fn rest(self, k: usize) -> Self {
+        Case(self.0.get(k..).unwrap_or(&[]))
+    }
+
+    // Number k, where there is one.
+    fn number(self, k: usize) -> Option<i32> {
+        self.0.get(k).map(|bytes| numbers::i32_at(bytes, 0))
     }
 
     // The length that number k names, but no more than `most`; `most` where there is none.
     fn length(self, k: usize, most: usize) -> usize
-        requires { k ≤ 1000 }
         ensures { result ≤ most }
     {
-        match self.number(k) {
-            Some(n) => most.min(n.cast_unsigned() as usize),
-            None => most,
-        }
+        self.number(k)
+            .map_or(most, |n| most.min(n.cast_unsigned() as usize))
     }
 
     // The numbers from k on, 0 past the end: as many as number `count_at` names.
-    fn list(self, rt: &HostRuntime, k: usize, count_at: usize) -> Result<Vec<i32>, AllocError>
-        requires { (k ≤ 900) × (count_at ≤ 1000) }
-    {
+    fn list(self, rt: &HostRuntime, k: usize, count_at: usize) -> Result<Vec<i32>, AllocError> {
+        let rest = self.rest(k);
         let mut list = Vec::new(rt.alloc());
         for i in 0..self.length(count_at, MOST) {
-            list.push(self.number(k + i).unwrap_or(0))?;
+            list.push(rest.number(i).unwrap_or(0))?;
         }
         Ok(list)
     }
@@ -162,7 +163,7 @@ fn main(rt: HostRuntime) -> io::Result<()> {
         let bytes = intake::read_up_to(rt.alloc(), &mut file, LONGEST)?;
         print!(rt; "{path}:")?;
         if bytes.starts_with(b"case") {
-            Case(&bytes).run(&rt)?;
+            Case::of(&bytes).run(&rt)?;
         } else {
             run_record(&rt, &bytes)?;
         }
