@@ -1,5 +1,6 @@
 -- Each field is 0 by itself.
 use Rattle.joint.specs.Refusal.{zero_values}
+use Rattle.joint.proofs.Columns.{zero_positions_is}
 use Rattle.negwishal.proofs.nothing.Goals as goal
 
 pub returns : goal.returns
@@ -12,7 +13,8 @@ returns c =
     let o = a.1.1.1 in
     let q = b.1.1.1 in
     let w = d.1.1.0 in
-    let p = d.1.1.1.0 in
+    let places = d.1.1.1.0 in
+    let p = zero_positions_is places.0 places.1.0 places.1.1 in
     let l = d.1.1.1.1 in
     λ i. record {
       version = d.0 i;
