@@ -55,7 +55,7 @@ pub struct Dowel {
     pub steel: u8,
 }
 
-// Kind 3. Coordinates in tenths of a millimetre; places from n on are 0.
+// Kind 3. Coordinates in tenths of a millimetre; places from n on are 0. Arrays by value and a count, as 01 names them: no heap.
 #[derive(Clone, Copy, Default)]
 pub struct Positions {
     pub n: usize,

@@ -38,6 +38,8 @@ const LEAST_DIAMETER: usize = 6;
 
 const MOST_DIAMETER: usize = 30;
 
+// One call of std under the record's word, so that each limit below is an equation with the definition's `between`. Limits are joined by `&`:
+// one way through each function, and its proof is one equation (docs/DECISIONS.md).
 fn is_between(low: usize, high: usize, n: usize) -> bool
     ensures { result ≡ between low high n }
 {
