@@ -61,6 +61,7 @@ impl Demand {
     }
 
     // The greatest of the three.
+    #[tactic(auto, unfolding(crate::specs::Returned::use_of))]
     pub(crate) fn use_ten_thousandths(self) -> u64
         ensures { result ≡ use_of (demand_told self) }
     {

@@ -46,6 +46,7 @@ fn is_between(low: usize, high: usize, n: usize) -> bool
     (low..=high).contains(&n)
 }
 
+#[tactic(auto, unfolding(crate::specs::Refusal::member_within, crate::specs::Refusal::outline_within))]
 fn member_within(m: &Member) -> bool
     ensures { result ≡ member_within m.now }
 {
@@ -71,6 +72,7 @@ fn positions_within(p: &Positions) -> bool
     are_coordinates(&p.x[..p.n]) && are_coordinates(&p.y[..p.n])
 }
 
+#[tactic(auto, unfolding(crate::specs::Refusal::loads_within))]
 fn loads_within(l: &Loads) -> bool
     ensures { result ≡ loads_within l.now }
 {
