@@ -33,6 +33,7 @@ pub struct Demand {
 }
 
 // The force in parts of a newton, rounded up, from its square.
+#[tactic(auto, using(strength::proofs::Greatest::square_root_is), unfolding(crate::specs::Returned::scaled_force_of))]
 fn scaled_force(total: u64) -> u64
     requires { total ≤ 2000000000000 }
     ensures { result ≡ scaled_force_of total }
@@ -44,6 +45,7 @@ impl Demand {
     ghost use Rattle.joint.specs.Told.{demand_told};
 
     // The use by the whole force.
+    #[tactic(auto, using(crate::proofs::UseSizes::scaled_small, crate::proofs::UseSizes::total_some, crate::proofs::Uses::ceiling_is), unfolding(crate::specs::Returned::total_use_of))]
     fn total_use(self) -> u64
         ensures { result ≡ total_use_of (demand_told self) }
     {

@@ -63,6 +63,7 @@ fn are_coordinates(l: &[i32]) -> bool
     l.iter().all(|z| is_coordinate(*z))
 }
 
+#[tactic(auto, using(crate::proofs::Columns::coordinates_are, crate::proofs::Accepted::between_high), unfolding(crate::specs::Refusal::positions_within))]
 fn positions_within(p: &Positions) -> bool
     ensures { result ≡ positions_within p.now }
 {

@@ -93,6 +93,7 @@ fn loads_in(part: &[u8]) -> Loads
     }
 }
 
+#[tactic(auto, using(crate::proofs::Stages::values_read))]
 pub(crate) fn values_of(bytes: &[u8], parts: Parts) -> Values
     requires { LaidOut bytes.now parts }
     ensures { result ≡ values_of bytes.now }
