@@ -67,10 +67,7 @@ fn are_coordinates(l: &[i32]) -> bool
 fn positions_within(p: &Positions) -> bool
     ensures { result ≡ positions_within p.now }
 {
-    if !is_between(1, MOST_DOWELS, p.n) {
-        return false;
-    }
-    are_coordinates(&p.x[..p.n]) && are_coordinates(&p.y[..p.n])
+    is_between(1, MOST_DOWELS, p.n) && are_coordinates(&p.x[..p.n]) && are_coordinates(&p.y[..p.n])
 }
 
 #[tactic(auto, unfolding(crate::specs::Refusal::loads_within))]
