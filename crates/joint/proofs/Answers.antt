@@ -26,12 +26,11 @@ use Rattle.group.proofs.RowLaws.{row_some}
 use Rattle.joint.specs.declared.Member.{Member}
 use Rattle.joint.specs.declared.Values.{Values}
 use Rattle.group.specs.declared.member.Taken.{Taken}
-use Rattle.joint.specs.declared.demand.Demand.{Demand}
 use Rattle.joint.specs.Refusal.{drill_fault, spaced}
 use Rattle.joint.specs.Design.{Design}
 use Rattle.joint.specs.DesignOf.{counted_planes, carrier_of, design_of}
 use Rattle.joint.specs.Use.{Above0, RowsEnough, UseBracket, ShareBracket, Answered}
-use Rattle.joint.specs.Returned.{member_taken, twice_planes, demand_of, use_of, row_use_of, RowWithin, DemandWithin, answered, Passed}
+use Rattle.joint.specs.Returned.{Demand, member_taken, twice_planes, demand_of, use_of, row_use_of, RowWithin, DemandWithin, answered, Passed}
 use Rattle.joint.proofs.EnoughLaws.{Sound}
 use Rattle.joint.proofs.Uses.{force_below, force_below_lem, force_enough, rows_enough, RowPasses, use_within, use_positive, u_row1, u_row2}
 use Rattle.joint.proofs.Within.{total_low, total_small, along_small, plane_within, check_within}

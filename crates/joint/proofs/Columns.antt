@@ -16,7 +16,10 @@ use lib.Seq.{set_out}
 use Rattle.numbers.specs.Numbers.{i32_at, coordinate}
 use Rattle.joint.specs.Layout.{position_field, column}
 use Rattle.joint.specs.Stage.{eighths}
-use Rattle.joint.specs.Refusal.{coordinates}
+use Rattle.std.specs.Array.{AllOfLen}
+use Rattle.std.proofs.lemmas.List.{same_lists, length-replicate, get_or-replicate}
+use Rattle.joint.specs.declared.Positions.{Positions}
+use Rattle.joint.specs.Refusal.{coordinates, zero_positions}
 
 -- the first n numbers of a list, as they are scanned
 pub coordinates_are : (l : List ℤ) (n : ℕ) → n ≤ length l → list_all coordinate (take n l) ≡ coordinates l n
@@ -78,3 +81,13 @@ module _ (part : List ℕ) (n : ℕ) where
 
   pub y_column : column (eighths part 6) n ≡ column (position_field part 1) n
   y_column = column_same _ _ n (λ i l. ap (i32_at part) (omega arith))
+
+-- positions by `Default`, which says that each place is 0, are those of the definition
+zeros : (l : List ℤ) → AllOfLen (λ z. z ≡ pos 0) l 64 → l ≡ replicate 64 (pos 0)
+zeros l a =
+    same_lists l (replicate 64 (pos 0)) (a.long ∙ sym (length-replicate 64 (pos 0)))
+    (λ k d h. a.at k d (omega (arith, a.long)) ∙ sym (get_or-replicate 64 k (pos 0) d (omega (arith, a.long))))
+
+pub zero_positions_is : {n : ℕ} {x y : List ℤ} → n ≡ 0 → AllOfLen (λ z. z ≡ pos 0) x 64 → AllOfLen (λ z. z ≡ pos 0) y 64
+    → ◌≡◌ {A = Positions} (record { n = n; x = x; y = y }) zero_positions
+zero_positions_is {n} {x} {y} e a b = λ i. record { n = e i; x = zeros x a i; y = zeros y b i }

@@ -23,6 +23,9 @@ use Rattle.joint.specs.Refusal.{between, member_within, members_within, dowel_wi
 use Rattle.joint.specs.Refusal.{outline_empty, empty_outlines, no_force}
 use Rattle.joint.specs.Stage.{Parted, Bounded, present, part_at, found, parts_of, all_found, sized, Stretch, LaidOut}
 use Rattle.joint.specs.Refusal.{value_tests}
+use Rattle.joint.specs.Told.{kind_code}
+use Rattle.joint.specs.declared.places.Kind.{Kind}
+use Rattle.joint.specs.declared.places.Kind.TheVariants.{Members as MembersKind, Dowel as DowelKind, Positions as PositionsKind, Loads as LoadsKind}
 use Rattle.joint.specs.declared.Members.{Members}
 use Rattle.joint.specs.declared.Dowel.{Dowel}
 use Rattle.joint.specs.declared.Positions.{Positions}
@@ -217,6 +220,14 @@ module _ (s : List ℕ) where
       of true true false d = refl
       of true false c d = refl
       of false b c d = refl
+
+  -- a kind that no part has
+  pub kind_missing : (kind : Kind) → None ≡ found s (kind_code kind) → None ≡ all_found s
+  unfolding all_found
+  kind_missing MembersKind e = simp (not_present s 1 e)
+  kind_missing DowelKind e = simp (not_present s 2 e, and-false)
+  kind_missing PositionsKind e = simp (not_present s 3 e, and-false)
+  kind_missing LoadsKind e = simp (not_present s 4 e, and-false)
 
   pub kinds_missing : None ≡ all_found s → refusal5 s ≡ true
   unfolding all_found

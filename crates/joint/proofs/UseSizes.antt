@@ -7,8 +7,7 @@ use Rattle.strength.specs.Working.{square_root_of}
 use Rattle.strength.proofs.Greatest.{square_root_of_lem}
 use Rattle.wide.proofs.Powers.{square_lt}
 use Rattle.group.specs.declared.member.Taken.{Taken}
-use Rattle.joint.specs.declared.demand.Demand.{Demand}
-use Rattle.joint.specs.Returned.{scaled_force_of, RowWithin, DemandWithin}
+use Rattle.joint.specs.Returned.{Demand, scaled_force_of, RowWithin, DemandWithin}
 
 -- a force in 1024ths of a newton
 pub scaled_small : (total : ℕ) → total ≤ 2000000000000 → scaled_force_of total ≤ 1448154690

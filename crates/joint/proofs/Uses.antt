@@ -11,11 +11,10 @@ use Rattle.strength.specs.Roots.{SquareRoot}
 use Rattle.strength.proofs.Greatest.{square_root_of_lem}
 use Rattle.wide.proofs.Powers.{square_lt, square_is}
 use Rattle.group.specs.declared.member.Taken.{Taken}
-use Rattle.joint.specs.declared.demand.Demand.{Demand}
 use Rattle.joint.specs.Use.{plane_force, row_force, WithinUse, Above0}
 use Rattle.std.specs.Int.{div_ceil}
 use Rattle.std.proofs.lemmas.Grind.{div_ceil_times}
-use Rattle.joint.specs.Returned.{ceiling_of, scaled_force_of, total_use_of, row_use_of, use_of, DemandWithin, RowWithin}
+use Rattle.joint.specs.Returned.{Demand, ceiling_of, scaled_force_of, total_use_of, row_use_of, use_of, DemandWithin, RowWithin}
 use Rattle.joint.proofs.UseSizes.{total_some, row_some}
 use Rattle.joint.proofs.UseLaws.{total_enough, row_enough, total_within, row_within}
 

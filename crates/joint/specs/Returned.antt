@@ -15,7 +15,6 @@ use Rattle.joint.specs.declared.Dowel.{Dowel}
 use Rattle.joint.specs.declared.Positions.{Positions}
 use Rattle.joint.specs.declared.Loads.{Loads}
 use Rattle.joint.specs.declared.Values.{Values}
-use Rattle.joint.specs.declared.demand.Demand.{Demand}
 use Rattle.joint.specs.Answer.{Report}
 use Rattle.joint.specs.Answer.Verdict.{Refused}
 use Rattle.joint.specs.Layout.{values_of}
@@ -24,6 +23,15 @@ use Rattle.joint.specs.DesignOf.{force_along, plane_of, kmod_in}
 use Rattle.joint.specs.Use.{verdict_of}
 
 -- ---- which use
+-- what it depends on: the code's `Demand` with no fact about it, since demands are made of values before these are tested
+pub record Demand : Type 0 where
+  pub total : ℕ
+  pub member1 : Taken
+  pub member2 : Taken
+  pub planes2 : ℕ
+  pub kmod : ℕ
+  pub capacity : ℕ
+
 -- a/b rounded up
 unfoldable pub ceiling_of : ℕ → ℕ → ℕ
 ceiling_of a b = (a + (b - 1)) / b

@@ -14,7 +14,8 @@ use Rattle.joint.specs.declared.report.Judgement.TheVariants.{Fits, Overloaded, 
 use Rattle.joint.specs.Answer.{Reading, Outcome, Report, Verdict}
 use Rattle.joint.specs.Answer.Verdict.{Fits as FitsVerdict, Overloaded as OverloadedVerdict}
 use Rattle.joint.specs.Refusal.{zero_values, outcome}
-use Rattle.joint.specs.Returned.{unanswered}
+use Rattle.joint.specs.declared.demand.Demand.{Demand as CodeDemand}
+use Rattle.joint.specs.Returned.{Demand, unanswered}
 
 -- 'A part's first byte is its kind.'
 abbrev pub kind_code : Kind → ℕ
@@ -61,3 +62,14 @@ abbrev pub told : Judgement → Report
 told (Fits f) = report FitsVerdict f
 told (Overloaded f) = report OverloadedVerdict f
 told (Refused r) = unanswered (fault_in r)
+
+-- a demand as the definitions take it
+abbrev pub demand_told : CodeDemand → Demand
+demand_told d = record {
+  total = d.total;
+  member1 = d.member1;
+  member2 = d.member2;
+  planes2 = d.planes2;
+  kmod = d.kmod;
+  capacity = d.capacity;
+}

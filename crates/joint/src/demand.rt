@@ -20,7 +20,7 @@ const BY_TOTAL: u64 = 2600000000;
 const BY_ROW: u64 = 5200000000000;
 
 // What the use depends on: the squared force, what it takes of the members, twice the number of shear planes that count, kmod in hundredths, the
-// capacity of a plane in thousandths of a newton.
+// capacity of a plane in thousandths of a newton. The definitions have a record of their own, with no fact about it.
 #[derive(Clone, Copy)]
 pub struct Demand {
     pub total: u64,
@@ -29,9 +29,11 @@ pub struct Demand {
     pub planes2: u64,
     pub kmod: u64,
     pub capacity: u64,
+    pub ghost within: { DemandWithin (record { total = total; member1 = member1; member2 = member2; planes2 = planes2; kmod = kmod; capacity = capacity }) },
 }
 
 // The force in parts of a newton, rounded up, from its square.
+#[tactic(auto, using(strength::proofs::Greatest::square_root_is), unfolding(crate::specs::Returned::scaled_force_of))]
 fn scaled_force(total: u64) -> u64
     requires { total ≤ 2000000000000 }
     ensures { result ≡ scaled_force_of total }
@@ -39,12 +41,13 @@ fn scaled_force(total: u64) -> u64
     roots::whole_square_root(PARTS_SQUARED * total) + 1
 }
 
-// `DemandWithin` is no ghost field: the definitions make demands of values before these are tested.
 impl Demand {
+    ghost use Rattle.joint.specs.Told.{demand_told};
+
     // The use by the whole force.
+    #[tactic(auto, using(crate::proofs::UseSizes::scaled_small, crate::proofs::UseSizes::total_some, crate::proofs::Uses::ceiling_is), unfolding(crate::specs::Returned::total_use_of))]
     fn total_use(self) -> u64
-        requires { DemandWithin self }
-        ensures { result ≡ total_use_of self }
+        ensures { result ≡ total_use_of (demand_told self) }
     {
         let force = BY_TOTAL * scaled_force(self.total);
         force.div_ceil(PARTS * (self.planes2 * self.kmod) * self.capacity)
@@ -52,18 +55,17 @@ impl Demand {
 
     // The use by the force along one member in its rows.
     fn row_use(self, m: Taken) -> u64
-        requires demand_within { DemandWithin self }
-        requires row_within { RowWithin m }
-        ensures { result ≡ row_use_of self m }
+        requires { RowWithin m }
+        ensures { result ≡ row_use_of (demand_told self) m }
     {
         let force = BY_ROW * m.along;
         force.div_ceil(self.planes2 * (self.kmod / KMOD_STEP) * m.share * self.capacity)
     }
 
     // The greatest of the three.
+    #[tactic(auto, unfolding(crate::specs::Returned::use_of))]
     pub(crate) fn use_ten_thousandths(self) -> u64
-        requires { DemandWithin self }
-        ensures { result ≡ use_of self }
+        ensures { result ≡ use_of (demand_told self) }
     {
         let by_total = self.total_use();
         by_total

@@ -41,6 +41,7 @@ pub(crate) fn plan_of(v: &Values) -> Plan
 }
 
 // The first fault of values that passed refusals 1 to 9.
+#[tactic(auto, unfolding(crate::specs::Refusal::drill_fault))]
 pub(crate) fn check(v: &Values) -> Result<(), Fault>
     requires { Given v.now.dowel.diameter v.now.loads.fx v.now.loads.fy v.now.positions.n }
     ensures { told result ≡ drill_fault v.now }

@@ -2,9 +2,8 @@
 ghost use Rattle.std.specs.Prelude.{◌≡◌, ◌≤◌};
 ghost use Rattle.strength.specs.Shear.{PlaneWithin};
 ghost use Rattle.strength.specs.Working.{capacity_of};
-ghost use Rattle.spacing.specs.Spacing.{Given};
 ghost use Rattle.joint.specs.DesignOf.{plane_member, plane_in};
-ghost use Rattle.joint.specs.Told.{told};
+ghost use Rattle.joint.specs.Told.{told, demand_told};
 ghost use Rattle.joint.specs.Returned.{
   DemandWithin,
   PlaneGiven,
@@ -30,7 +29,7 @@ const WHOLE: u64 = 10000;
 
 // What the use takes of both members.
 fn taken_of(v: &Values) -> Both
-    requires { Given v.now.dowel.diameter v.now.loads.fx v.now.loads.fy v.now.positions.n × (6 ≤ v.now.dowel.diameter) × (1 ≤ v.now.positions.n) }
+    requires { Passed v.now }
     ensures { result ≡ taken_of v.now.members v.now.dowel v.now.loads v.now.positions }
 {
     member::both_taken(
@@ -56,15 +55,15 @@ fn plane_member(diameter: u8, m: &Member, along: u64, total: u64) -> Timber
 }
 
 // The capacity of a shear plane in thousandths of a newton.
-fn capacity_of(v: &Values, total: u64, along1: u64, along2: u64) -> u64
-    requires plane_within { PlaneWithin (plane_in v.now.members v.now.dowel total along1 along2) }
-    requires along_small { (along1 ≤ 1000000) × (along2 ≤ 1000000) }
-    ensures { result ≡ capacity_of (plane_in v.now.members v.now.dowel total along1 along2) }
+fn capacity_of(v: &Values, total: u64, taken: Both) -> u64
+    requires plane_within { PlaneWithin (plane_in v.now.members v.now.dowel total taken.member1.along taken.member2.along) }
+    requires along_small { (taken.member1.along ≤ 1000000) × (taken.member2.along ≤ 1000000) }
+    ensures { result ≡ capacity_of (plane_in v.now.members v.now.dowel total taken.member1.along taken.member2.along) }
 {
     let diameter = v.dowel.diameter;
     capacity::capacity_thousandths(Plane {
-        member1: plane_member(diameter, &v.members.member1, along1, total),
-        member2: plane_member(diameter, &v.members.member2, along2, total),
+        member1: plane_member(diameter, &v.members.member1, taken.member1.along, total),
+        member2: plane_member(diameter, &v.members.member2, taken.member2.along, total),
         diameter: diameter as u64,
         steel: codes::steel_strength(v.dowel.steel).unwrap_or(0),
         planes: v.members.planes as u64,
@@ -84,8 +83,10 @@ fn twice_planes(n: usize, planes: u8) -> u64
 
 // What the use depends on.
 fn demand_of(v: &Values, taken: Both) -> Demand
-    requires { PlaneGiven v.now.members v.now.dowel v.now.loads taken.member1.along taken.member2.along × (v.now.positions.n ≤ 64) }
-    ensures { result ≡ demand_in v.now.members v.now.dowel v.now.loads v.now.positions.n taken }
+    requires plane { PlaneGiven v.now.members v.now.dowel v.now.loads taken.member1.along taken.member2.along }
+    requires most { v.now.positions.n ≤ 64 }
+    requires within { DemandWithin (demand_in v.now.members v.now.dowel v.now.loads v.now.positions.n taken) }
+    ensures { demand_told result ≡ demand_in v.now.members v.now.dowel v.now.loads v.now.positions.n taken }
 {
     let loads = v.loads;
     let total = force::squared_force(loads.fx, loads.fy);
@@ -95,14 +96,13 @@ fn demand_of(v: &Values, taken: Both) -> Demand
         member2: taken.member2,
         planes2: twice_planes(v.positions.n, v.members.planes),
         kmod: codes::kmod_hundredths(loads.service_class, loads.duration).unwrap_or(0),
-        capacity: capacity_of(v, total, taken.member1.along, taken.member2.along),
+        capacity: capacity_of(v, total, taken),
     }
 }
 
 // What a joint of this demand and row share is told.
 fn judgement_of(d: Demand, share: u64) -> Judgement
-    requires { DemandWithin d }
-    ensures { told result ≡ report_with d share }
+    ensures { told result ≡ report_with (demand_told d) share }
 {
     let usage = d.use_ten_thousandths();
     let figures = Figures {

@@ -7,7 +7,7 @@ ghost use Rattle.joint.specs.Told.{kind_code, refusal_in};
 
 use crate::places::{
     COUNT_AT, DOWEL_BYTES, FIRST_PAIR, HEADER_BYTES, Kind, LOADS_BYTES, MEMBERS_BYTES, PAIRS,
-    POSITION_BYTES, POSITIONS_FRONT, VERSION_AT,
+    POSITION_BYTES, VERSION_AT,
 };
 use crate::refusals::Refusal;
 use chain::Width;
@@ -71,8 +71,10 @@ fn find_parts(bytes: &[u8], bounds: &[usize; PAIRS + 1]) -> Option<Parts>
 fn positions_length(part: &[u8]) -> bool
     ensures { result ≡ positions_length part.now }
 {
-    POSITIONS_FRONT <= part.len()
-        && part.len() == POSITIONS_FRONT + POSITION_BYTES * part[1] as usize
+    match part {
+        [_, n, places @ ..] => places.len() == POSITION_BYTES * *n as usize,
+        _ => false,
+    }
 }
 
 // Whether each part has a length of its kind.

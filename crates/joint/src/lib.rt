@@ -55,27 +55,12 @@ pub struct Dowel {
     pub steel: u8,
 }
 
-// Kind 3. Coordinates in tenths of a millimetre; places from n on are 0.
-#[derive(Clone, Copy)]
+// Kind 3. Coordinates in tenths of a millimetre; places from n on are 0. Arrays by value and a count, as 01 names them: no heap.
+#[derive(Clone, Copy, Default)]
 pub struct Positions {
     pub n: usize,
     pub x: [i32; MOST_DOWELS],
     pub y: [i32; MOST_DOWELS],
-}
-
-// By hand: of an array a derive says no more than that each place is 0.
-impl Default for Positions {
-    ghost use Rattle.joint.specs.Refusal.{zero_positions};
-
-    ghost is_default = { λ p. p ≡ zero_positions };
-
-    fn default() -> Positions {
-        Positions {
-            n: 0,
-            x: [0i32; MOST_DOWELS],
-            y: [0i32; MOST_DOWELS],
-        }
-    }
 }
 
 // Kind 4. The force that the dowels put into member 2, in newtons.

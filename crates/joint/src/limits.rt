@@ -38,12 +38,15 @@ const LEAST_DIAMETER: usize = 6;
 
 const MOST_DIAMETER: usize = 30;
 
+// One call of std under the record's word, so that each limit below is an equation with the definition's `between`. Limits are joined by `&`:
+// one way through each function, and its proof is one equation (docs/DECISIONS.md).
 fn is_between(low: usize, high: usize, n: usize) -> bool
     ensures { result ≡ between low high n }
 {
     (low..=high).contains(&n)
 }
 
+#[tactic(auto, unfolding(crate::specs::Refusal::member_within, crate::specs::Refusal::outline_within))]
 fn member_within(m: &Member) -> bool
     ensures { result ≡ member_within m.now }
 {
@@ -60,15 +63,14 @@ fn are_coordinates(l: &[i32]) -> bool
     l.iter().all(|z| is_coordinate(*z))
 }
 
+#[tactic(auto, using(crate::proofs::Columns::coordinates_are, crate::proofs::Accepted::between_high), unfolding(crate::specs::Refusal::positions_within))]
 fn positions_within(p: &Positions) -> bool
     ensures { result ≡ positions_within p.now }
 {
-    if !is_between(1, MOST_DOWELS, p.n) {
-        return false;
-    }
-    are_coordinates(&p.x[..p.n]) && are_coordinates(&p.y[..p.n])
+    is_between(1, MOST_DOWELS, p.n) && are_coordinates(&p.x[..p.n]) && are_coordinates(&p.y[..p.n])
 }
 
+#[tactic(auto, unfolding(crate::specs::Refusal::loads_within))]
 fn loads_within(l: &Loads) -> bool
     ensures { result ≡ loads_within l.now }
 {

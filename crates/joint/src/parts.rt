@@ -10,6 +10,7 @@ use crate::{Dowel, Loads, MOST_DOWELS, Member, Members, Outline, Positions, Valu
 use numbers::{i32_at, u16_at};
 
 // Class, grain, thickness, then x0, y0, x1 and y1.
+#[tactic(auto, using(crate::proofs::Tests::from_bits), unfolding(crate::specs::Layout::member_at))]
 fn member_at(part: &[u8], i: usize) -> Member
     requires { i + 20 ≤ length part.now }
     ensures { result ≡ member_at part.now i }
@@ -28,6 +29,7 @@ fn member_at(part: &[u8], i: usize) -> Member
 }
 
 // Kind, shear planes, then both members.
+#[tactic(auto, unfolding(crate::specs::Layout::members_in))]
 fn members_in(part: &[u8]) -> Members
     requires { length part.now ≡ 42 }
     ensures { result ≡ members_in part.now }
@@ -40,6 +42,7 @@ fn members_in(part: &[u8]) -> Members
 }
 
 // Kind, diameter, steel.
+#[tactic(auto, unfolding(crate::specs::Layout::dowel_in))]
 fn dowel_in(part: &[u8]) -> Dowel
     requires { length part.now ≡ 3 }
     ensures { result ≡ dowel_in part.now }
@@ -63,6 +66,7 @@ fn column_of(part: &[u8], at: usize, n: usize) -> [i32; MOST_DOWELS]
 }
 
 // Kind, N, then x and y of each dowel.
+#[tactic(auto, using(crate::proofs::Columns::x_column, crate::proofs::Columns::y_column), unfolding(crate::specs::Layout::positions_in))]
 fn positions_in(part: &[u8]) -> Positions
     requires { length part.now ≡ 2 + 8 * u8_at part.now 1 }
     ensures { result ≡ positions_in part.now }
@@ -76,6 +80,7 @@ fn positions_in(part: &[u8]) -> Positions
 }
 
 // Kind, service class, duration, then fx and fy.
+#[tactic(auto, using(crate::proofs::Tests::from_bits), unfolding(crate::specs::Layout::loads_in))]
 fn loads_in(part: &[u8]) -> Loads
     requires { length part.now ≡ 11 }
     ensures { result ≡ loads_in part.now }
@@ -88,6 +93,7 @@ fn loads_in(part: &[u8]) -> Loads
     }
 }
 
+#[tactic(auto, using(crate::proofs::Stages::values_read))]
 pub(crate) fn values_of(bytes: &[u8], parts: Parts) -> Values
     requires { LaidOut bytes.now parts }
     ensures { result ≡ values_of bytes.now }

@@ -25,6 +25,7 @@ impl Kind {
     ghost use Rattle.std.specs.Prelude.{◌≡◌};
     ghost use Rattle.joint.specs.Told.{kind_code};
 
+    // The enum's own number, under the record's word for a part's first byte.
     pub fn code(self) -> u8
         ensures { result ≡ kind_code self }
     {

@@ -20,6 +20,7 @@ pub enum Refusal {
 impl Refusal {
     ghost use Rattle.joint.specs.Told.{number_of};
 
+    // The enum's own number, under the name that 01 gives it; callers print it.
     pub fn number(self) -> u8
         ensures { result ≡ number_of self }
     {
@@ -46,7 +47,8 @@ impl Rejection {
         }
     }
 
-    // The place: member and dowels, counted from 1; 0 where the number has none.
+    // The place: member and dowels, counted from 1; 0 where the number has none. Three alike, one for each of its numbers: a `match` says
+    // each in two lines, and a helper for all would have to answer three numbers or take a function.
     pub fn member(self) -> u8
         ensures { result ≡ (fault_in self).member }
     {

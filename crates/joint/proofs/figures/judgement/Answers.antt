@@ -3,31 +3,30 @@ use native.Mathlib.Omega.{arith}
 use mathlib.Core.Path.{◌≡◌, ◌∙◌, ap, ap₂, subst⁻¹}
 use Rattle.group.specs.declared.member.Both.{Both}
 use Rattle.joint.specs.Returned.{demand_in, demand_of, report_with, answered, DemandWithin}
+use Rattle.joint.specs.Told.{demand_told}
 use Rattle.joint.proofs.Answers.{plane, within}
 use Rattle.joint.proofs.figures.judgement.Goals as goal
 
 pub demand_of-requires : goal.demand_of-requires
-demand_of-requires c = let w = within c.args.v.now c.requires in
+demand_of-requires c = let v = c.args.v.now in
+    let w = within v c.requires in
     let first = ap (λ (r : Both). r.member1.along) c.taken_of-taken.ensures in
-    let second = ap (λ (r : Both). r.member2.along) c.taken_of-taken.ensures in (
-      record {
+    let second = ap (λ (r : Both). r.member2.along) c.taken_of-taken.ensures in
+    record {
+      plane = record {
         member1 = first;
         member2 = second;
-        small1 = omega (arith, w.row1.along_high);
-        small2 = omega (arith, w.row2.along_high);
+        small1 = omega (arith, w.row1.along_high, first);
+        small2 = omega (arith, w.row2.along_high, second);
         force = c.requires.given.force;
-        plane = plane c.args.v.now c.requires;
-      },
-      c.requires.given.most,
-    )
-
-pub judgement_of-requires : goal.judgement_of-requires
-judgement_of-requires c = let demand_is : c.demand_of.result ≡ demand_of c.args.v.now = let v = c.args.v.now in
-    c.demand_of.ensures ∙ ap (demand_in v.members v.dowel v.loads v.positions.n) c.taken_of-taken.ensures in
-    subst⁻¹ DemandWithin (demand_is) (within c.args.v.now c.requires)
+        plane = plane v c.requires;
+      };
+      most = c.requires.given.most;
+      within = subst⁻¹ DemandWithin (ap (demand_in v.members v.dowel v.loads v.positions.n) c.taken_of-taken.ensures) w;
+    }
 
 pub returns : goal.returns
 unfolding answered
-returns c = let demand_is : c.demand_of.result ≡ demand_of c.args.v.now = let v = c.args.v.now in
+returns c = let demand_is : demand_told c.demand_of.result ≡ demand_of c.args.v.now = let v = c.args.v.now in
     c.demand_of.ensures ∙ ap (demand_in v.members v.dowel v.loads v.positions.n) c.taken_of-taken.ensures in
     c.judgement_of.ensures ∙ ap₂ report_with (demand_is) (ap (λ (b : Both). b.share) c.taken_of-taken.ensures)

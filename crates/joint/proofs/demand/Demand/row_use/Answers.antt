@@ -4,11 +4,12 @@ use mathlib.Core.Path.{◌∙◌}
 use Rattle.joint.specs.Returned.{row_use_of}
 use Rattle.joint.proofs.UseSizes.{row_divisor, row_some}
 use Rattle.joint.proofs.Uses.{ceiling_is}
+use Rattle.joint.specs.Told.{demand_told}
 use Rattle.joint.proofs.demand.Demand.row_use.Goals as goal
 
 pub overflow_mul-self-3 : goal.overflow_mul-self-3
-overflow_mul-self-3 c = omega (arith, row_divisor c.args.self c.requires.demand_within c.args.m c.requires.row_within)
+overflow_mul-self-3 c = omega (arith, row_divisor (demand_told c.args.self) c.args.self.within c.args.m c.requires)
 
 pub returns : goal.returns
 unfolding row_use_of
-returns c = c.div_ceil.ensures ∙ ceiling_is _ _ (row_some c.args.self c.requires.demand_within c.args.m c.requires.row_within)
+returns c = c.div_ceil.ensures ∙ ceiling_is _ _ (row_some (demand_told c.args.self) c.args.self.within c.args.m c.requires)
