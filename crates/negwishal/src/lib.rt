@@ -67,7 +67,6 @@ fn hand_places(v: &Values, x: &mut [i32], y: &mut [i32], marks: &mut [i32])
 }
 
 // What is handed on where nothing was read: values that are all 0. Its promise says so as one value; a `Default` says it field by field.
-#[tactic(auto, unfolding(joint::specs::Refusal::zero_values))]
 fn nothing() -> Values
     ensures { result ≡ zero_values }
 {

@@ -5,7 +5,8 @@ ghost use Rattle.std.specs.Prelude.{◌≡◌, ◌+◌, ◌≤◌, length};
 ghost use Rattle.std.proofs.lemmas.List.Edits.{sets};
 ghost use Rattle.numbers.specs.Numbers.{u16_at, u32_at, i32_at, u16_bytes, u32_bytes, i32_bytes, coordinate, force};
 
-// One function for each type: a trait would hold the same calls of std, and a ghost member for each.
+// One function for each type: a trait would hold the same calls of std, and a ghost member for each. That a slice has room for a number at a
+// place is asked of each anew: it is a fact of slice and place, and no value carries both.
 pub fn u16_at(s: &[u8], i: usize) -> u16
     requires { i + 2 ≤ length s.now }
     ensures { result ≡ u16_at s.now i }

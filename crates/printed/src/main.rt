@@ -29,9 +29,11 @@ struct Tally {
 
 impl fmt::Display for Tally {
     fn fmt<W: fmt::Write>(&self, f: &mut fmt::Formatter<W>) -> fmt::Result {
-        let compared = self.compared;
-        let differing = self.differing;
-        write!(f, "compared {compared}, differing {differing}")
+        write!(
+            f,
+            "compared {}, differing {}",
+            self.compared, self.differing
+        )
     }
 }
 
