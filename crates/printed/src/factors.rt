@@ -1,6 +1,6 @@
 // 001's factors k1 of the classes of wood and k2 of the steels (below Tables 13-5 to 13-7) beside the tables of `codes`:
 // k1 is the root of density/350, k2 that of fu/360.
-ghost use Rattle.std.specs.Prelude.{◌≤◌, ◌<◌};
+ghost use Rattle.std.specs.Prelude.{◌≤◌, ◌<◌, length};
 
 use strength::roots;
 
@@ -37,6 +37,7 @@ fn differs(print: u16, square_of_twice: u64) -> bool {
 // How many of the factors with the codes 1, 2 and so on differ from what is printed.
 pub fn differing<F: Fn(u8) -> u64>(printed: &[u16], square_of_twice: F) -> usize
     requires { F.IsAlwaysCallable square_of_twice }
+    ensures { result ≤ length printed.now }
 {
     printed
         .iter()
