@@ -6,7 +6,7 @@ ghost use Rattle.chain.specs.Chain.{bytes_of, pair_bytes, number_at, continues, 
 
 use numbers::{u16_at, u32_at};
 
-// How many bytes each number of a pair has.
+// How many bytes each number of a pair has: a value that callers name and the definitions speak of, with methods.
 #[derive(Clone, Copy)]
 pub enum Width {
     Two,

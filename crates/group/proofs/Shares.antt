@@ -21,10 +21,6 @@ fourth e = rw (pow-suc e 3, pow-suc e 2, pow-suc e 1, pow-suc e 0, pow-zero e) (
 power20 : {a b : ℕ} → a ≤ b → (a ^ 4) ^ 5 ≤ (b ^ 4) ^ 5
 power20 h = pow-le-pow_left (pow-le-pow_left h 4) 5
 
--- between lo and hi = lo + 1 there is no further number
-pub next_share : (q n lo hi : ℕ) → n < (hi ^ 4) ^ 5 * q → hi ≤ lo + 1 → n < ((lo + 1) ^ 4) ^ 5 * q
-next_share q n lo hi h e = lt_of_lt_of_le h (mul-le-mul_right q (power20 e))
-
 -- n² (130 d)^5 has 73 bits
 pub factor_within : {d n : ℕ} → d ≤ 30 → n ≤ 64 → FactorWithin (n * n * (130 * d) ^ 5)
 factor_within {d} {n} h m = record {

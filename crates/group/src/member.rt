@@ -23,7 +23,8 @@ pub struct Both {
     pub share: u64,
 }
 
-// What it asks of the plan is no ghost field of `Plan`: that would ask more of callers of `spacing`, which take any diameter and no dowel.
+// What it asks of the plan is no ghost field of `Plan`: that would ask more of callers of `spacing`, which take a diameter below 6, and no
+// dowel.
 fn one_taken(which: Which, m: Piece, plan: Plan) -> Taken
     requires { (6 ≤ plan.diameter) × (1 ≤ plan.count) }
     ensures { TakenFrom m plan.diameter plan.fx plan.fy plan.x plan.y plan.count result }

@@ -91,7 +91,7 @@ fn deciding(worst: Row, row: Row) -> Row
     row
 }
 
-// Whether a window starts where the one before it did.
+// Whether a window starts where the one before it did: by its place, since two places are looked at.
 fn same_start(starts: &[i32], i: usize) -> bool
     requires { i < length starts.now }
     ensures { result ≡ same_start starts.now i }
@@ -116,7 +116,8 @@ fn worst_window(holes: &[Hole], starts: &[i32], reach: u64) -> Row
     worst
 }
 
-// The share of a member, with the dowels' coordinates along and across its grain; a row reaches less than `reach` across.
+// The share of a member, with the dowels' coordinates along and across its grain, two arrays by value as document 01 names them; a row reaches
+// less than `reach` across.
 pub fn member_share(d: u64, reach: u64, a: [i32; 64], b: [i32; 64], count: usize) -> u64
     requires { RowsGiven d reach count }
     ensures { MemberShared d reach a b count result }

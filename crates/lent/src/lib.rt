@@ -85,7 +85,8 @@ pub fn numbers_of(f: &Fields) -> [i32; NUMBERS]
     ]
 }
 
-// Puts all numbers of `from` at the front of `to`; what `to` has past them stays.
+// Puts all numbers of `from` at the front of `to`; what `to` has past them stays. One call of std, under the definition that the entries'
+// contracts speak of.
 pub fn copy<T: Copy>(from: &[T], to: &mut [T])
     requires { length from.now ≤ length to.old }
     ensures { to.new ≡ front from.now to.old }

@@ -5,6 +5,7 @@ ghost use Rattle.std.specs.Prelude.{◌+◌, ◌*◌, ◌≤◌, ◌≡◌, ◌�
 ghost use Rattle.std.specs.List.{flat_map};
 ghost use Rattle.arrayvec.specs.ArrayString.{array_string_len};
 ghost use Rattle.joint.specs.Told.{told};
+ghost use Rattle.joint.specs.Returned.{unanswered};
 ghost use Rattle.joint.specs.declared.report.Judgement.TheVariants.{Fits};
 ghost use Rattle.line.specs.Line.{field_of, figures_after, line_of};
 
@@ -15,7 +16,7 @@ use joint::report::{Figures, Judgement};
 // The bytes of the longest line: `refused`, four numbers of up to 20 digits with a space before each, and the newline.
 pub const LONGEST: usize = 92;
 
-// A space and n after what stands in the line.
+// A space and n after what stands in the line. By `push_str`: std says of `write!` what a `String` takes, and nothing of other writers.
 fn push_field(line: &mut ArrayString<LONGEST>, n: u64)
     requires { array_string_len line.old + 21 ≤ 92 }
     ensures bytes { line.new.bytes ≡ line.old.bytes ++ field_of n }
@@ -55,14 +56,17 @@ pub fn line_of(j: Judgement) -> ArrayString<LONGEST>
     match j {
         Judgement::Fits(f) => figures_line("fits", f),
         Judgement::Overloaded(f) => figures_line("overloaded", f),
-        Judgement::Refused(r) => line_with(
-            "refused",
-            &[
-                r.number() as u64,
-                r.member() as u64,
-                r.first() as u64,
-                r.second() as u64,
-            ],
-        ),
+        Judgement::Refused(r) => refusal_line(r.number(), r.member(), r.first(), r.second()),
     }
+}
+
+// The line of a refusal by its number and place, whichever they are: no judgement has a number above 12.
+#[tactic(auto, unfolding(crate::specs::Line::line_of, joint::specs::Returned::unanswered))]
+pub fn refusal_line(number: u8, member: u8, first: u8, second: u8) -> ArrayString<LONGEST>
+    ensures { result.bytes ≡ line_of (unanswered (record { number = number; member = member; first = first; second = second })) }
+{
+    line_with(
+        "refused",
+        &[number as u64, member as u64, first as u64, second as u64],
+    )
 }

@@ -22,7 +22,7 @@ pub const FIELDS: usize = 8;
 const ANSWERS: usize = 2;
 
 // A report as it stands in a slice: verdict (0 refused, 1 fits, 2 overloaded), number, member, first, second, use, capacity, share.
-// The verdicts' numbers are C's, and stand here alone.
+// The verdicts' numbers are C's, and stand in no other code.
 #[tactic(auto, unfolding(joint::specs::Returned::unanswered))]
 fn numbers_in(judgement: Judgement) -> [u64; FIELDS]
     ensures { result ≡ filled (told judgement) }

@@ -29,7 +29,7 @@ pub fn i32_at(s: &[u8], i: usize) -> i32
     u32_at(s, i).cast_signed()
 }
 
-// And one for each type that is put: each is one call of std, and a trait would say as much again.
+// And one for each type that is put: each is a call or two of std, and a trait would say as much again.
 pub fn put_u16(s: &mut [u8], i: usize, n: u16)
     requires { i + 2 ≤ length s.old }
     ensures { s.new ≡ sets s.old i (u16_bytes n) }
@@ -52,6 +52,7 @@ pub fn put_i32(s: &mut [u8], i: usize, z: i32)
     put_u32(s, i, z.cast_unsigned());
 }
 
+// The two limits have a name each, as the definitions have: refusal 7 is read by these names.
 #[tactic(auto, unfolding(crate::specs::Numbers::coordinate))]
 pub fn is_coordinate(z: i32) -> bool
     ensures { result ≡ coordinate z }

@@ -49,7 +49,8 @@ pub struct Setting {
     ghost planes_high: { planes ≤ 2 },
 }
 
-// The member at the angle φ is member 2 in Tables 13-5 and 13-6, and member 1 in Table 13-7; the other's angle is 0.
+// The member at the angle φ is member 2 in Tables 13-5 and 13-6, and member 1 in Table 13-7; the other's angle is 0. The tables differ in data
+// alone, which stand here.
 fn setting_of(table: Table, group: usize) -> Setting {
     let d = tables::diameter(group % 5);
     let turned = tables::cos_squared(group / 5);
@@ -120,7 +121,7 @@ fn force_differs(s: Setting, print: u16) -> bool {
 fn thickness_differs<F: Fn(Thickness) -> u64>(s: Setting, print: u16, capacity_with: F) -> bool
     requires { F.IsAlwaysCallable capacity_with }
 {
-    if print < 21 || 399 < print {
+    if !(21..=399).contains(&print) {
         return true;
     }
     let first = capacity_at(s, THICK, THICK);

@@ -404,7 +404,7 @@ fn cell_of(groups: &[[u16; 3]], cell: usize) -> u16
     }
 }
 
-// A cell of a table as it is printed, 0 past the last one.
+// A cell of a table as it is printed, 0 past the last one. By its number, since one is altered by its number.
 fn cell_at(table: Table, cell: usize) -> u16
     ensures { result ≤ 1482 }
 {

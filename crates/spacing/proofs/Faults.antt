@@ -1,11 +1,11 @@
 -- The searches by whole limits find the faults of Table 8.
 use mathlib.Core.Path.{◌≡◌, refl, sym, ap, ap₂, fun_ext, ◌∙◌}
-use mathlib.Core.Bool.{Bool, true, false, cond, not, ◌&&◌, ◌||◌}
+use mathlib.Core.Bool.{Bool, true, false, cond, not, ◌&&◌}
 use mathlib.Core.List.{List}
-use Prim.Native.Nat.{ℕ, ◌+◌, ◌*◌, ◌≤◌, ◌<◌}
+use Prim.Native.Nat.{ℕ, ◌+◌, ◌≤◌, ◌<◌}
 use borrow.Author.Tests.{lt-ltb, le-ltb}
 use native.Mathlib.Omega.{arith}
-use lib.Dec.{leb, ltb, eqb}
+use lib.Dec.{ltb, eqb}
 use lib.IntN.{ℤ, pos, neg_ℤ, nat_abs, ◌-ℤ◌}
 use lib.Signed.{le_z}
 use Rattle.spacing.specs.declared.view.Which.{Which}
@@ -17,18 +17,12 @@ use Rattle.std.specs.Prelude.{Some}
 use Rattle.spacing.specs.declared.verdict.Fault.{Fault as Refusal}
 use Rattle.spacing.specs.declared.verdict.Fault.TheVariants.{DowelsTooClose, EndTooNear, EdgeTooNear}
 use Rattle.spacing.specs.Search.{partner, first_pair, PairIs}
-use Rattle.spacing.specs.Spacing.{along, across, force_in, view_of, square, squared_force, place, distance, too_close, end_too_near, Components}
-use Rattle.spacing.specs.Limits.{PairLimit, EndLimit, close_by, outside}
+use Rattle.spacing.specs.Spacing.{along, across, force_in, view_of, square, squared_force, place, end_too_near, Components}
+use Rattle.spacing.specs.Limits.{EndLimit, outside}
 use Rattle.spacing.specs.Verdict.{Fault, fault, one_dowel, or_else, fault_of}
 use Rattle.spacing.proofs.Integers.{nat_abs_neg}
 
 -- ---- a whole limit tests what the rule tests
-pub close_same :
-    (v : Frame) (d along : ℕ) (a b : List ℤ) → PairLimit d (square v.force) (squared_force v.force v.sideways) along →
-    close_by along (30 * d) a b ≡ too_close v d a b
-close_same v d along a b l =
-    fun_ext λ i. fun_ext λ j. ap (λ t. not (t || leb (30 * d) (distance b i j))) (sym (l.decides (distance a i j)))
-
 pub end_same :
     (v : Frame) (d low high : ℕ) (a : List ℤ) →
     EndLimit (le_z (pos 1) (neg_ℤ v.force)) d (square v.sideways) (squared_force v.force v.sideways) low →

@@ -1,5 +1,5 @@
 -- A whole number decides each irrational limit of Table 8.
-use mathlib.Core.Path.{◌≡◌, refl, sym, ap, ◌∙◌}
+use mathlib.Core.Path.{◌≡◌, refl, sym, ap, ap₂, ◌∙◌}
 use mathlib.Core.Bool.{true, false, ◌&&◌, and-false}
 use Prim.Native.Nat.{ℕ, zero, suc, ◌+◌, ◌-◌, ◌*◌, ◌/◌, ◌≤◌, ◌<◌, max}
 use native.Mathlib.Nat.{lt_of_not-le, not-le_of_lt, mul-le-mul, mul-le-mul_right, mul-le-mul_left, div-add-mod', mod-lt, le_trans}
@@ -9,10 +9,13 @@ use borrow.Author.Tests.{le-leb, lt-leb, leb-true}
 use lib.Dec.{leb, leb-zero}
 use lib.IntN.{ℤ, pos, negsuc, nat_abs}
 use lib.Signed.{le_z}
+use mir.Syntax.{w32}
+use mir.Val.{to_z, of_z}
 use Rattle.wide.proofs.Tests.{same_test}
 use Rattle.strength.specs.Roots.{SquareRoot}
-use Rattle.spacing.specs.Spacing.{along_enough, end_passes, square, Components}
+use Rattle.spacing.specs.Spacing.{along_enough, end_passes, square, squared_force, Components}
 use Rattle.spacing.specs.Limits.{LeastPart, PairLimit, EndLimit}
+use Rattle.spacing.proofs.Integers.{small_read}
 
 module _ (w total q r : ℕ) (force : 0 < total) (root : SquareRoot q r) (low : q * total ≤ w) (high : w < (q + 1) * total) where
   passes : (e : ℕ) → r + 1 ≤ e → suc w ≤ e * e * total
@@ -64,6 +67,14 @@ squares {d} {f} {g} h = record {
   y_small = mul-le-mul h.y_small h.y_small;
   some = omega (arith, h.some, below_square (nat_abs f), below_square (nat_abs g));
 }
+
+-- the least part of squares that are read from a member's view, where the components are within the record's limits
+pub part_read :
+    {d k p t r : ℕ} (f g h : ℤ) → Components d f g → nat_abs h ≤ 1000000 → p ≡ square (to_z w32 (of_z w32 h)) →
+    t ≡ squared_force (to_z w32 (of_z w32 f)) (to_z w32 (of_z w32 g)) → LeastPart k p t r →
+    LeastPart k (square h) (squared_force f g) r
+part_read f g h c small e w l =
+    rw (e ∙ ap square (small_read h small), w ∙ ap₂ squared_force (small_read f c.x_small) (small_read g c.y_small)) at l
 
 -- ---- limits
 both : (A r a : ℕ) → leb A a && leb r (a - A) ≡ leb (A + r) a

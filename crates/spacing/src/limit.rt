@@ -71,8 +71,8 @@ impl Measured {
         APART * d + least_part(APART_ALONG * d, square(v.force), total)
     }
 
-    // The least distance to an end: 7d and 80 mm where it is loaded, else 7d sin α and 3d. `loaded` is a fact of the end and not a switch:
-    // which rule of the table holds there.
+    // The least distance to an end: 7d and 80 mm where it is loaded, else 7d sin α and 3d. `EndLimit` takes `loaded` as it stands: two functions
+    // would repeat the call at each end.
     fn from_end(&self, loaded: bool) -> u64
         ensures { let v = self.now.view.frame in EndLimit loaded self.now.diameter (square v.sideways) (squared_force v.force v.sideways) result }
     {

@@ -49,9 +49,9 @@ impl Fault {
         ensures { result ≡ (fault_of self).member }
     {
         match self {
-            Fault::DowelsTooClose { member, .. } => member.number(),
-            Fault::EndTooNear { member, .. } => member.number(),
-            Fault::EdgeTooNear { member, .. } => member.number(),
+            Fault::DowelsTooClose { member, .. }
+            | Fault::EndTooNear { member, .. }
+            | Fault::EdgeTooNear { member, .. } => member.number(),
         }
     }
 
@@ -61,8 +61,7 @@ impl Fault {
     {
         match self {
             Fault::DowelsTooClose { first, .. } => first,
-            Fault::EndTooNear { dowel, .. } => dowel,
-            Fault::EdgeTooNear { dowel, .. } => dowel,
+            Fault::EndTooNear { dowel, .. } | Fault::EdgeTooNear { dowel, .. } => dowel,
         }
     }
 
@@ -72,8 +71,7 @@ impl Fault {
     {
         match self {
             Fault::DowelsTooClose { second, .. } => second,
-            Fault::EndTooNear { .. } => 0,
-            Fault::EdgeTooNear { .. } => 0,
+            Fault::EndTooNear { .. } | Fault::EdgeTooNear { .. } => 0,
         }
     }
 }
@@ -108,7 +106,7 @@ impl Measured {
         }
     }
 
-    // Refusal 12: an edge too near.
+    // Refusal 12: an edge too near. One function for both would have to be told limits, list and case; what they share is `first_outside`.
     fn edge_fault(&self) -> Result<(), Fault>
         ensures { let m = self.now in told result ≡ edge_fault (number_of m.member) m.view.frame m.diameter m.view.across m.count }
     {
@@ -146,7 +144,8 @@ fn viewed(which: Which, m: Piece, plan: Plan) -> Result<(), Fault>
     member_verdict(which, plan.view(which, m), plan.diameter, plan.count)
 }
 
-// The verdict of both members, member 1 first. Members and plan stay three parameters: a struct of them would only be taken apart here.
+// The verdict of both members, member 1 first. Members and plan stay three parameters: callers have them apart, and a struct of them would be
+// made there to be taken apart here.
 pub fn spacing_verdict(member1: Piece, member2: Piece, plan: Plan) -> Result<(), Fault>
     ensures { told result ≡ spacing_verdict member1 member2 plan.diameter plan.fx plan.fy plan.x plan.y plan.count }
 {

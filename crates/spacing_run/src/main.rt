@@ -28,7 +28,7 @@ const MOST_FIELDS: usize = 142;
 // Tenths of a millimetre in one.
 const TENTHS: u64 = 10;
 
-// A number; 0 where it is not whole. What is no digit counts as 0.
+// A number; 0 where it is not whole. By hand and not by `parse`, since what is no digit counts as 0.
 fn number_of(field: &[u8]) -> i32 {
     let [sign, others @ ..] = field else {
         return 0;
@@ -49,7 +49,7 @@ fn number_of(field: &[u8]) -> i32 {
 
 fn piece(grain: i32, x0: i32, y0: i32, x1: i32, y1: i32) -> Piece {
     Piece {
-        grain: if grain == 0 { 0 } else { 1 },
+        grain: u8::from(grain != 0),
         x0,
         y0,
         x1,
@@ -72,7 +72,7 @@ fn plan_of(diameter: u64, fx: i32, fy: i32, places: &[i32]) -> Option<Plan>
     let wide = fx.unsigned_abs();
     let high = fy.unsigned_abs();
     let count = places.len() / 2;
-    if diameter < 6 || 30 < diameter || count == 0 {
+    if !(6..=30).contains(&diameter) || count == 0 {
         return None;
     }
     if 1000000 < wide || 1000000 < high || wide + high == 0 {
@@ -108,7 +108,8 @@ fn judge(rt: &HostRuntime, member1: Piece, member2: Piece, plan: Plan) -> io::Re
     println!(rt; "{number} {member} {first} {second} {share1} {share2} ")
 }
 
-// Each joint in turn, until one has no dowel. The numbers end in as many 0 as a joint has, so that the last one is whole.
+// Each joint in turn, until one has no dowel. The numbers end in as many 0 as a joint has, so that the last one is whole. `while let` takes
+// a joint off the front and counts nothing.
 fn joints(rt: &HostRuntime, fields: &[i32]) -> io::Result<()> {
     let mut rest = fields;
     while let [
