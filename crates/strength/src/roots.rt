@@ -1,20 +1,14 @@
-// Whole roots by recursive bracketing: the root lies between lo and hi, and the width hi - lo falls at each call.
+// Whole roots. The square root is std's; the fifth root is found by recursive bracketing: it lies between lo and hi, and the width hi - lo
+// falls at each call.
 ghost use Rattle.std.specs.Prelude.{◌≡◌, ℕ, ◌+◌, ◌*◌, ◌^◌, ◌<◌, ◌≤◌, true, false, nat_le};
 ghost use Rattle.wide.specs.Natural.{value};
 ghost use Rattle.strength.specs.Roots.{SquareRoot, FifthRoot, FifthBracket, FactorWithin, Inside};
-
-// A number whose square is above every u64.
-const ABOVE_SQUARE_ROOTS: u64 = 4294967296;
 
 // The whole square root of any 64-bit number.
 pub fn whole_square_root(n: u64) -> u64
     ensures { SquareRoot n result }
 {
-    let passes = |root: u64|
-        requires { root < 4294967296 }
-        ensures { result ≡ nat_le (root * root) n }
-    { root * root <= n };
-    greatest_between(0, ABOVE_SQUARE_ROOTS, &passes)
+    n.isqrt()
 }
 
 // The greatest number at which a test passes, known to be at least low and below high: the last one from low on at which it
@@ -28,11 +22,10 @@ pub fn greatest_between<F: Fn(u64) -> bool>(low: u64, high: u64, passes: &F) -> 
     ensures passed { F.post passes.now result true }
     ensures failed { F.post passes.now (result + 1) false }
 {
-    let width = high - low;
-    if width <= 1 {
+    if high - low <= 1 {
         return low;
     }
-    let middle = low + width / 2;
+    let middle = low.midpoint(high);
     if passes(middle) {
         greatest_between(middle, high, passes)
     } else {
@@ -40,7 +33,8 @@ pub fn greatest_between<F: Fn(u64) -> bool>(low: u64, high: u64, passes: &F) -> 
     }
 }
 
-// Whether r^5 q is at most n.
+// Whether r^5 q is at most n. The bound on q stands here and in two contracts of `group`, and is no ghost field: q is a lent slice, and
+// each product would take a struct for this one fact apart again.
 pub fn fifth_power_at_most(r: u64, q: &[u32], n: &[u32]) -> bool
     requires { FactorWithin (value q.now) }
     ensures { result ≡ nat_le (r ^ 5 * value q.now) (value n.now) }
@@ -60,7 +54,7 @@ fn inside(lo: u64, hi: u64, hint: u64) -> u64
     if lo < hint && hint < hi {
         hint
     } else {
-        lo + (hi - lo) / 2
+        lo.midpoint(hi)
     }
 }
 

@@ -1,6 +1,6 @@
 // The fields of a case, little-endian.
 ghost use Rattle.std.specs.Prelude.{◌≡◌, ◌+◌, ◌≤◌, length};
-ghost use Rattle.wide_run.specs.Fields.{u32_at, u64_at};
+ghost use Rattle.wide_run.specs.Fields.{u64_at};
 
 use std::array;
 
@@ -11,13 +11,7 @@ pub fn count(x: u8) -> usize
     (x % 17) as usize
 }
 
-fn u32_at(s: &[u8], at: usize) -> u32
-    requires { at + 4 ≤ length s.now }
-    ensures { result ≡ u32_at s.now at }
-{
-    u32::from_le_bytes(array::from_fn(|i| s[at + i]))
-}
-
+// A record has no 64-bit number, so `numbers` reads none.
 pub fn u64_at(s: &[u8], at: usize) -> u64
     requires { at + 8 ≤ length s.now }
     ensures { result ≡ u64_at s.now at }
@@ -30,5 +24,5 @@ pub fn limbs_at(s: &[u8], at: usize) -> [u32; 16]
     requires { at + 64 ≤ length s.now }
     ensures { 16 ≡ length result }
 {
-    array::from_fn(|i| u32_at(s, at + 4 * i))
+    array::from_fn(|i| numbers::u32_at(s, at + 4 * i))
 }

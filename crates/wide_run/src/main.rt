@@ -79,6 +79,8 @@ fn write_none(rt: &HostRuntime, name: &str) -> io::Result<()> {
     println!(rt; "{name}-")
 }
 
+// What follows takes its operands a and b as `wide` does: a struct of both would only be taken apart again.
+
 fn write_from_u64(rt: &HostRuntime, m: u64) -> io::Result<()> {
     write_line(rt, "from ", &wide::from_u64(m))
 }

@@ -55,7 +55,7 @@ pub overflow_mul-x-4 : goal.overflow_mul-x-4
 overflow_mul-x-4 c = record { fits = lt_of_lt_of_le (x4 c.requires) (lit≤ tt) }
 
 pub times_u64-requires : goal.times_u64-requires
-times_u64-requires c = (lit< tt, product_fits 122 33 5 (rw c.product_u64-square.ensures (product_bits 61 61 (x4 c.requires) (x4 c.requires))) (y2 c.requires) tt)
+times_u64-requires c = product_fits 122 33 5 (rw c.product_u64-square.ensures (product_bits 61 61 (x4 c.requires) (x4 c.requires))) (y2 c.requires) tt tt
 
 pub returns : goal.returns
 returns c = gathered _ _ _ _ _ c.times_u64.ensures c.product_u64-square.ensures refl

@@ -1,5 +1,5 @@
 -- The square, the fourth, the fifth power and the product are made one after the other; each has as many bits as its factors together.
-use Rattle.std.proofs.Common.{◌≡◌, ℕ, ◌*◌, ◌^◌, ◌<◌, leb, ap, ◌∙◌, lit<}
+use Rattle.std.proofs.Common.{◌≡◌, ℕ, ◌*◌, ◌^◌, ◌<◌, leb, ap, ◌∙◌}
 use Rattle.wide.specs.Natural.{value}
 use Rattle.wide.proofs.Bits.{product_bits, product_fits}
 use Rattle.wide.proofs.Powers.{fifth_is}
@@ -19,19 +19,18 @@ whole p v q f s r i g e d =
     i ∙ ap (λ (z : ℕ). z * q) (g ∙ ap (λ (z : ℕ). z * r) (e ∙ ap (λ (z : ℕ). z * z) d) ∙ fifth_is r)
 
 pub product-fourth-requires : goal.product-fourth-requires
-product-fourth-requires c = (lit< tt, product_fits 128 128 8 (square_bits c.product_u64-square.ensures c.ranges.r.fits) (square_bits c.product_u64-square.ensures c.ranges.r.fits) tt)
+product-fourth-requires c = product_fits 128 128 8 (square_bits c.product_u64-square.ensures c.ranges.r.fits) (square_bits c.product_u64-square.ensures c.ranges.r.fits) tt tt
 
 pub times_u64-fifth-requires : goal.times_u64-fifth-requires
-times_u64-fifth-requires c = (lit< tt, product_fits 256 64 10 (fourth_bits c.product-fourth.ensures c.product_u64-square.ensures c.ranges.r.fits) c.ranges.r.fits tt)
+times_u64-fifth-requires c = product_fits 256 64 10 (fourth_bits c.product-fourth.ensures c.product_u64-square.ensures c.ranges.r.fits) c.ranges.r.fits tt tt
 
 pub product-product-requires : goal.product-product-requires
-product-product-requires c = (
-  lit< tt,
-  product_fits 320 96 13
-      (fifth_bits c.times_u64-fifth.ensures c.product-fourth.ensures c.product_u64-square.ensures c.ranges.r.fits)
-      c.requires.high
-      tt,
-)
+product-product-requires c =
+    product_fits 320 96 13
+    (fifth_bits c.times_u64-fifth.ensures c.product-fourth.ensures c.product_u64-square.ensures c.ranges.r.fits)
+    c.requires.high
+    tt
+    tt
 
 pub returns : goal.returns
 returns c = c.at_most.ensures

@@ -22,10 +22,10 @@ module _ {density k90 along total : ℕ} (w : BearingWithin density k90 along to
   along_bits = omega (arith, w.angle, w.force_high)
 
 pub times_u64-num-requires : goal.times_u64-num-requires
-times_u64-num-requires c = (lit< tt, product_fits 62 11 3 (rw c.from_u64.ensures c.requires.force_high) (density_bits c.requires) tt)
+times_u64-num-requires c = product_fits 62 11 3 (rw c.from_u64.ensures c.requires.force_high) (density_bits c.requires) tt tt
 
 pub times_u64-den-requires : goal.times_u64-den-requires
-times_u64-den-requires c = (lit< tt, product_fits 62 11 3 (rw c.from_u64-2.ensures (across_bits c.requires)) (k90_bits c.requires) tt)
+times_u64-den-requires c = product_fits 62 11 3 (rw c.from_u64-2.ensures (across_bits c.requires)) (k90_bits c.requires) tt tt
 
 pub multiply_add_u64-requires : goal.multiply_add_u64-requires
 multiply_add_u64-requires c = again _ 3 74 (search rules)

@@ -10,7 +10,7 @@ use Rattle.wide_run.proofs.guards.has_short_quotient.Goals as goal
 
 pub product-p-requires : goal.product-p-requires
 unfolding value
-product-p-requires c = (lit< tt, product_fits 512 65 19 (slice_bits c.args.b.now 16 c.type_inv.b c.requires) (lit< tt) tt)
+product-p-requires c = product_fits 512 65 19 (slice_bits c.args.b.now 16 c.type_inv.b c.requires) (lit< tt) tt tt
 
 pub returns : goal.returns
 unfolding value

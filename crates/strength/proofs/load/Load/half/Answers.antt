@@ -13,10 +13,10 @@ unfolding half_of
 quotient force num den a b ea eb = ap₂ (λ (x y : ℕ). x / y) (ea ∙ omega arith) (eb ∙ omega arith)
 
 pub times_u64-a-requires : goal.times_u64-a-requires
-times_u64-a-requires c = (lit< tt, product_fits 73 30 4 c.args.self.now.within.num_bits (omega (arith, c.args.self.now.within.factor)) tt)
+times_u64-a-requires c = product_fits 73 30 4 c.args.self.now.within.num_bits (omega (arith, c.args.self.now.within.factor)) tt tt
 
 pub times_u64-b-requires : goal.times_u64-b-requires
-times_u64-b-requires c = (lit< tt, product_fits 73 2 3 c.args.self.now.within.den_bits (lit< tt) tt)
+times_u64-b-requires c = product_fits 73 2 3 c.args.self.now.within.den_bits (lit< tt) tt tt
 
 pub quotient-requires : goal.quotient-requires
 quotient-requires c = below _ _ _ _ _ c.times_u64-a.ensures c.times_u64-b.ensures c.args.self.now.within.positive

@@ -17,10 +17,10 @@ scaled : {force root : ℕ} → force ≤ 924960000 → root ≤ 1073741824 → 
 scaled h g = lt_of_le_of_lt (mul-le-mul h g) (lit< tt)
 
 pub times_u64-a-requires : goal.times_u64-a-requires
-times_u64-a-requires c = (lit< tt, product_fits 73 60 5 c.args.self.now.within.num_bits (scaled c.args.self.now.within.factor c.requires) tt)
+times_u64-a-requires c = product_fits 73 60 5 c.args.self.now.within.num_bits (scaled c.args.self.now.within.factor c.requires) tt tt
 
 pub times_u64-b-requires : goal.times_u64-b-requires
-times_u64-b-requires c = (lit< tt, product_fits 73 32 4 c.args.self.now.within.den_bits (omega (arith, c.requires)) tt)
+times_u64-b-requires c = product_fits 73 32 4 c.args.self.now.within.den_bits (omega (arith, c.requires)) tt tt
 
 pub quotient-requires : goal.quotient-requires
 quotient-requires c = below _ _ _ _ _ _ c.times_u64-a.ensures c.times_u64-b.ensures c.args.self.now.within.positive

@@ -18,10 +18,10 @@ quotient k m nums whole a b ea eb =
     ap₂ (λ (x y : ℕ). square_root_of (x / y)) (ea ∙ mul_comm nums (529 * k * m)) (eb ∙ mul_comm whole 10)
 
 pub times_u64-a-requires : goal.times_u64-a-requires
-times_u64-a-requires c = (lit< tt, product_fits 146 58 7 c.requires.bits (scaled c.requires.factor c.requires.moment) tt)
+times_u64-a-requires c = product_fits 146 58 7 c.requires.bits (scaled c.requires.factor c.requires.moment) tt tt
 
 pub times_u64-b-requires : goal.times_u64-b-requires
-times_u64-b-requires c = (lit< tt, product_fits 147 4 5 c.requires.whole_bits (lit< tt) tt)
+times_u64-b-requires c = product_fits 147 4 5 c.requires.whole_bits (lit< tt) tt tt
 
 pub quotient-requires : goal.quotient-requires
 quotient-requires c = below 18446744073709551616 _ _ _ _ _ c.times_u64-a.ensures c.times_u64-b.ensures

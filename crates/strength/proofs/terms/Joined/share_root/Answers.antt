@@ -12,7 +12,7 @@ bound x part whole e h p = omega arith
 
 pub times_u64-scaled-requires : goal.times_u64-scaled-requires
 unfolding share_root_of
-times_u64-scaled-requires c = (lit< tt, product_fits 147 61 7 (lt_of_le_of_lt c.requires.below c.requires.bits) (lit< tt) tt)
+times_u64-scaled-requires c = product_fits 147 61 7 (lt_of_le_of_lt c.requires.below c.requires.bits) (lit< tt) tt tt
 
 pub quotient-requires : goal.quotient-requires
 unfolding share_root_of
