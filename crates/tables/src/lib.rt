@@ -72,7 +72,7 @@ fn is_laid(table: &[u8]) -> bool
         return false;
     }
     let bytes = u16_at(table, LENGTH_AT) as usize;
-    bytes % ENTRY_BYTES == 0
+    bytes.is_multiple_of(ENTRY_BYTES)
 }
 
 // Loads a firm's own table, or turns it away.
@@ -96,7 +96,7 @@ fn own_class(table: &[u8], code: u8) -> Option<Wood>
     Entries::of(table).find(|e| code == e.code).map(Wood::from)
 }
 
-// Which table a call uses: the printed one, or the firm's own.
+// Which table a call uses: the printed one, or the firm's own. A value that callers hold, with methods, and no closure.
 #[derive(Clone, Copy)]
 pub enum Source<'a> {
     Printed,
