@@ -16,7 +16,8 @@ pub const MOST_BYTES: usize = 4096;
 
 // What came of two reads, at first, until the buffer was full or the input ended, and when one byte more was asked for: some bytes, none at
 // the end of the input, or `None` where a read failed. Then what follows from that: how many bytes are in the buffer, whether more came, what
-// they are told, and the line of that. Where a read failed nothing is told and the line is empty.
+// they are told, and the line of that. Where a read failed nothing is told and the line is empty. Count and flag are what `Told` speaks of, so
+// they stand beside what they come from.
 #[derive(Clone, Copy)]
 pub struct Reply {
     pub first: Option<usize>,
@@ -28,7 +29,8 @@ pub struct Reply {
 }
 
 // The program's rule: the first `count` bytes of a buffer are judged, but where more came than the program reads, that is refusal 4
-// before any other test. Buffer, count and flag stay apart: a count beyond the buffer means the whole of it (docs/DECISIONS.md).
+// before any other test. Buffer, count and flag stay apart: a count beyond the buffer means the whole of it, where a
+// slice would ask that of the caller (docs/DECISIONS.md).
 pub fn judge_input(buffer: &[u8], count: usize, more: bool) -> Judgement
     ensures { InputReported buffer.now count more (told_of result) }
 {
@@ -121,7 +123,7 @@ pub fn answer<P: Print + Eprint + Alloc, R: Read>(
 {
     let mut from = Noting::new(from);
     let a = judged(&mut from, buffer);
-    if a.line.is_empty() {
+    if a.judgement.is_none() {
         from.tell(rt, "standard input");
     } else if let Err(error) = rt.write_all(a.line.as_str().as_bytes()) {
         failure::fail(rt, "standard output", error);

@@ -19,10 +19,7 @@ use Rattle.chain.proofs.Laws.{filled_at, follow, inside}
 use Rattle.joint.specs.Layout.{version, pair_count, pair_offset, pair_length, pair_sum, part_of_pair, kind_of_pair, pair_of_kind, part_of_kind}
 use Rattle.joint.specs.Layout.{members_in, dowel_in, positions_in, loads_in, values_of}
 use Rattle.joint.specs.Refusal.{refusal1, refusal2, refusal3, refusal4, refusal5, refusal6, positions_length, one_if, once, first_holding, script_tests}
-use Rattle.joint.specs.Refusal.{between, member_within, members_within, dowel_within, positions_within, loads_within, fields_within}
-use Rattle.joint.specs.Refusal.{outline_empty, empty_outlines, no_force}
 use Rattle.joint.specs.Stage.{Parted, Bounded, present, part_at, found, parts_of, all_found, sized, Stretch, LaidOut}
-use Rattle.joint.specs.Refusal.{value_tests}
 use Rattle.joint.specs.Told.{kind_code}
 use Rattle.joint.specs.declared.places.Kind.{Kind}
 use Rattle.joint.specs.declared.places.Kind.TheVariants.{Members as MembersKind, Dowel as DowelKind, Positions as PositionsKind, Loads as LoadsKind}
@@ -30,7 +27,6 @@ use Rattle.joint.specs.declared.Members.{Members}
 use Rattle.joint.specs.declared.Dowel.{Dowel}
 use Rattle.joint.specs.declared.Positions.{Positions}
 use Rattle.joint.specs.declared.Loads.{Loads}
-use Rattle.joint.specs.declared.Values.{Values}
 use Rattle.joint.specs.declared.layout.Part.{Part}
 use Rattle.joint.specs.declared.layout.Parts.{Parts}
 use Rattle.joint.proofs.Holding.{numbered, no_number}
@@ -102,12 +98,6 @@ module _ {s bounds : List ℕ} (b : Bounded s bounds) where
   kind_at_lem : (k : ℕ) → k < 4 → kind_of_pair s (suc k) ≡ kind_at k
   unfolding part_of_pair
   kind_at_lem k l = get_or-take _ _ 0 0 (b.parted.some k l) ∙ get_or-drop (pair_offset s (suc k)) s 0 0 ∙ rw (add-zero, b.start k l)
-
-  pub start_within : (k : ℕ) → k < 4 → get_or bounds k 0 < length s
-  start_within k l = omega (arith, b.start k l, b.parted.some k l, b.parted.inside k l)
-
-  pub start_first : (k : ℕ) → k < 4 → get_or bounds k 0 ≤ get_or bounds (k + 1) 0
-  start_first k l = rw add-one (omega (arith, b.start k l, b.end k l))
 
   pub part_found : {kind k : ℕ} → k < 4 → ((j : ℕ) → j < k → kind_at j ≡ kind → ⊥) → kind_at k ≡ kind
       → Some (record { start = get_or bounds k 0; bytes = get_or bounds (k + 1) 0 - get_or bounds k 0 }) ≡ found s kind
@@ -342,15 +332,6 @@ module _ (s : List ℕ) where
         loads_length = eqb-true _ _ t.1;
       })
 
--- how many bytes a part has that was lent
-pub part_has : {s a : List ℕ} {kind n : ℕ} {p : Part} → Stretch s kind p → a ≡ take p.bytes (drop p.start s) → length (part_of_kind s kind) ≡ n
-    → length a ≡ n
-part_has h e l = ap length (e ∙ h.bytes) ∙ l
-
-pub positions_have : {s a : List ℕ} {p : Part} → Stretch s 3 p → a ≡ take p.bytes (drop p.start s)
-    → length (part_of_kind s 3) ≡ 2 + 8 * u8_at (part_of_kind s 3) 1 → length a ≡ 2 + 8 * u8_at a 1
-positions_have h e l = rw (e ∙ h.bytes) l
-
 pub values_read : {s : List ℕ} {p : Parts} {a b c d : List ℕ} {k : ℕ} {m : Members} {w : Dowel} {n : Positions} {l : Loads} → LaidOut s p
     → k ≡ version s
     → a ≡ take p.members.bytes (drop p.members.start s) → m ≡ members_in a
@@ -360,34 +341,3 @@ pub values_read : {s : List ℕ} {p : Parts} {a b c d : List ℕ} {k : ℕ} {m :
     → record { version = k; members = m; dowel = w; positions = n; loads = l } ≡ values_of s
 unfolding values_of
 values_read o k a m b w c n d l = cc
-
--- ---- refusals 7 to 9, one after the other
-module _ (v : Values) where
-  abbrev tested : ℕ
-  tested = first_holding (value_tests v)
-
-  pub fields_test : {p m n d s q l : Bool} → p ≡ between 1 2 v.members.planes → m ≡ member_within v.members.member1
-      → n ≡ member_within v.members.member2 → d ≡ between 6 30 v.dowel.diameter → s ≡ between 1 3 v.dowel.steel
-      → q ≡ positions_within v.positions → l ≡ loads_within v.loads
-      → (p && m && n && (d && s) && q && l) ≡ fields_within v
-  unfolding members_within dowel_within fields_within
-  fields_test p m n d s q l = simp (p, m, n, d, s, q, l)
-
-  module _ {f : Bool} (e : f ≡ fields_within v) where
-    pub values_outside : f ≡ false → 7 ≡ tested
-    unfolding first_holding
-    values_outside h = simp (← e, h)
-
-    module _ (h : f ≡ true) {a b : Bool} (p : a ≡ outline_empty v.members.member1.outline) (q : b ≡ outline_empty v.members.member2.outline) where
-      pub values_empty : (a || b) ≡ true → 8 ≡ tested
-      unfolding first_holding empty_outlines
-      values_empty g = simp (← e, h, ← p, ← q, g)
-
-      module _ (g : (a || b) ≡ false) where
-        pub values_unloaded : no_force v.loads ≡ true → 9 ≡ tested
-        unfolding first_holding empty_outlines
-        values_unloaded k = simp (← e, h, ← p, ← q, g, k)
-
-        pub values_right : no_force v.loads ≡ false → 0 ≡ tested
-        unfolding first_holding empty_outlines
-        values_right k = simp (← e, h, ← p, ← q, g, k)

@@ -1,7 +1,8 @@
--- What a branch's test, or an answer that may be lacking, says.
-use mathlib.Core.Path.{◌≡◌, refl, sym, ◌∙◌}
+-- What a branch's test, an answer that may be lacking, or the exit of a `?` says.
+use mathlib.Core.Path.{◌≡◌, refl, sym, ap, ◌∙◌}
 use mathlib.Core.Bool.{Bool, true, false, cond}
-use Rattle.std.specs.Prelude.{Some, None}
+use Rattle.std.specs.Prelude.{Result, Option, Some, None, Err, IsErrAnd, ok_or}
+use Rattle.std.proofs.lemmas.Result.{err_from_is_err_and}
 use Prim.Native.Nat.{ℕ, ◌<◌}
 use borrow.Author.Tests.{eq-eqb, ne_eqb}
 use lib.Dec.{eqb}
@@ -30,3 +31,12 @@ lacking {b = false} x h = refl
 pub having : {A : Type 0} {b : Bool} {x y : A} → Some y ≡ cond b (Some x) None → (b ≡ true) × (y ≡ x)
 having {b = true} h = (refl, cc)
 having {b = false} h = cc h
+
+-- what the exit of a `?` returns, where an error is handed on as another
+pub handed_on : {A E : Type 0} {e : E} (r : Result A E) → IsErrAnd r (λ y. y ≡ e) → r ≡ Err e
+handed_on r h = let p = err_from_is_err_and r h in p.1 ∙ ap Err p.2
+
+-- what `ok_or` says of the answer that it was given
+pub lacked : {A E : Type 0} {o t : Option A} {d e : E} → Err e ≡ ok_or o d → o ≡ t → (None ≡ t) × (e ≡ d)
+lacked {o = None} h k = (k, cc)
+lacked {o = Some x} h k = cc h

@@ -1,5 +1,5 @@
 -- How large the numbers of the use are, within its ranges.
-use Prim.Native.Nat.{ℕ, ◌+◌, ◌*◌, ◌/◌, ◌^◌, ◌≤◌, ◌<◌}
+use Prim.Native.Nat.{ℕ, ◌*◌, ◌/◌, ◌≤◌, ◌<◌}
 use native.Mathlib.Omega.{arith}
 use native.Mathlib.Nat.{mul-pos, mul-le-mul}
 use lib.Dec.{lit<}
@@ -16,20 +16,7 @@ scaled_small total h =
     let r = square_root_of_lem (1048576 * total) (omega arith) in
     omega (arith, square_lt (square_root_of (1048576 * total)) 1448154689 (omega (arith, r.low)))
 
--- a root of a number that fits, whatever the number is made of
-pub root_fits : (n r : ℕ) → r * r ≤ n → n < 2 ^ 64 → r + 1 < 2 ^ 64
-root_fits n r e h = omega (arith, square_lt r (2 ^ 32) (omega arith))
-
-pub planes_small : {n p : ℕ} → n ≤ 64 → p < 256 → n * p ≤ 16320
-planes_small {n} {p} h g = mul-le-mul {m₂ = 255} h (omega arith)
-
 module _ (d : Demand) (w : DemandWithin d) where
-  pub planes_kmod : d.planes2 * d.kmod ≤ 28160
-  planes_kmod = mul-le-mul w.check.planes_high w.check.kmod_high
-
-  pub total_divisor : 1024 * (d.planes2 * d.kmod) * d.capacity ≤ 346030080000000000
-  total_divisor = mul-le-mul {n₂ = 28835840} (omega (arith, planes_kmod)) w.check.capacity_high
-
   pub total_some : 0 < 1024 * (d.planes2 * d.kmod) * d.capacity
   total_some =
       mul-pos (mul-pos (lit< tt) (mul-pos w.check.planes_low (omega (arith, w.check.kmod_low))))

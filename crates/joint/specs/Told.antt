@@ -1,6 +1,7 @@
 -- 01, 'When an answer is an enum, the promises use a definition that gives this paper's number and values for each case.'
-use Rattle.std.specs.Prelude.{ℕ, Result, Ok, Err}
+use Rattle.std.specs.Prelude.{ℕ, Result, Ok, Err, Option, Some, None}
 use Rattle.spacing.specs.Verdict.{Fault, fault, fault_of}
+use Rattle.spacing.specs.declared.verdict.Fault.{Fault as PlanFault}
 use Rattle.joint.specs.declared.places.Kind.{Kind}
 use Rattle.joint.specs.declared.places.Kind.TheVariants.{Members, Dowel, Positions, Loads}
 use Rattle.joint.specs.declared.Values.{Values}
@@ -49,6 +50,11 @@ reading (Err r) = record { number = number_of r; values = zero_values }
 abbrev pub fault_in : Rejection → Fault
 fault_in (Record r) = fault (number_of r) 0 0 0
 fault_in (Plan f) = fault_of f
+
+-- the fault in the drill plan, where it is one
+abbrev pub plan_fault : Rejection → Option PlanFault
+plan_fault (Record r) = None
+plan_fault (Plan f) = Some f
 
 abbrev pub outcome_in : Result Values Rejection → Outcome
 outcome_in (Ok v) = outcome (fault 0 0 0 0) v

@@ -40,15 +40,11 @@ pub(crate) fn plan_of(v: &Values) -> Plan
     }
 }
 
-// The first fault of values that passed refusals 1 to 9.
+// The first fault of values, by their drill plan.
 #[tactic(auto, unfolding(crate::specs::Refusal::drill_fault))]
-pub(crate) fn check(v: &Values) -> Result<(), Fault>
-    requires { Given v.now.dowel.diameter v.now.loads.fx v.now.loads.fy v.now.positions.n }
+pub(crate) fn check(v: &Values, plan: Plan) -> Result<(), Fault>
+    requires { IsPlanOf v.now plan }
     ensures { told result ≡ drill_fault v.now }
 {
-    verdict::spacing_verdict(
-        v.members.member1.into(),
-        v.members.member2.into(),
-        plan_of(v),
-    )
+    verdict::spacing_verdict(v.members.member1.into(), v.members.member2.into(), plan)
 }

@@ -14,7 +14,8 @@ use chain::Width;
 use codes::is_version;
 use numbers::u16_at;
 
-// The first byte of a part, and how many it has.
+// The first byte of a part, and how many it has: places and lengths and no slices, since the definitions speak of where a part starts and how
+// long it is (`parts_of`).
 #[derive(Clone, Copy)]
 pub(crate) struct Part {
     pub start: usize,

@@ -31,7 +31,8 @@ pub struct Outline {
     pub y1: i32,
 }
 
-// Grain 0 runs along x, 1 along y; thickness in tenths of a millimetre.
+// Grain 0 runs along x, 1 along y; thickness in tenths of a millimetre. Class and grain here, and steel, service class and duration below, are
+// the record's numbers and no enums, since one outside its list is a refusal (7) and not a reading that fails.
 #[derive(Clone, Copy, Default)]
 pub struct Member {
     pub class: u8,
@@ -55,7 +56,8 @@ pub struct Dowel {
     pub steel: u8,
 }
 
-// Kind 3. Coordinates in tenths of a millimetre; places from n on are 0. Arrays by value and a count, as 01 names them: no heap.
+// Kind 3. Coordinates in tenths of a millimetre; places from n on are 0. Arrays by value and a count, as 01 names them: no heap. That n is at
+// most 64 is no ghost field, since values are read before they are tested.
 #[derive(Clone, Copy, Default)]
 pub struct Positions {
     pub n: usize,
@@ -102,7 +104,7 @@ pub fn accept(bytes: &[u8]) -> Result<Values, Rejection>
     ensures { outcome_in result ≡ outcome_of bytes.now }
 {
     let values = read(bytes)?;
-    drill::check(&values)?;
+    drill::check(&values, drill::plan_of(&values))?;
     Ok(values)
 }
 

@@ -3,7 +3,7 @@ ghost use Rattle.std.specs.Prelude.{◌≡◌};
 ghost use Rattle.std.specs.List.{list_all};
 ghost use Rattle.numbers.specs.Numbers.{coordinate};
 ghost use Rattle.joint.specs.Refusal.{between, member_within, positions_within, loads_within, outline_empty, no_force, first_holding};
-ghost use Rattle.joint.specs.Refusal.{value_tests};
+ghost use Rattle.joint.specs.Refusal.{fields_within, value_tests};
 ghost use Rattle.joint.specs.Told.{refusal_in};
 
 use crate::refusals::Refusal;
@@ -38,8 +38,8 @@ const LEAST_DIAMETER: usize = 6;
 
 const MOST_DIAMETER: usize = 30;
 
-// One call of std under the record's word, so that each limit below is an equation with the definition's `between`. Limits are joined by `&`:
-// one way through each function, and its proof is one equation (docs/DECISIONS.md).
+// One call of std under the record's word, so that each limit below is an equation with the definition's `between`. The limits of one part are
+// joined by `&`: no field's test hides another's; of the positions N's comes first, as it says how many to test (docs/DECISIONS.md).
 fn is_between(low: usize, high: usize, n: usize) -> bool
     ensures { result ≡ between low high n }
 {
@@ -94,17 +94,26 @@ fn no_force(l: Loads) -> bool
     l.fx == 0 && l.fy == 0
 }
 
-// Refusals 7 to 9: the first that values have, whether a record has them or a writer is handed them.
-pub fn check_values(v: &Values) -> Result<(), Refusal>
-    ensures { refusal_in result ≡ first_holding (value_tests v.now) }
+// Every limit of refusal 7.
+#[tactic(auto, unfolding(crate::specs::Refusal::fields_within, crate::specs::Refusal::members_within, crate::specs::Refusal::dowel_within))]
+fn fields_within(v: &Values) -> bool
+    ensures { result ≡ fields_within v.now }
 {
-    let within = is_between(LEAST_PLANES, MOST_PLANES, v.members.planes as usize)
+    is_between(LEAST_PLANES, MOST_PLANES, v.members.planes as usize)
         & member_within(&v.members.member1)
         & member_within(&v.members.member2)
         & (is_between(LEAST_DIAMETER, MOST_DIAMETER, v.dowel.diameter as usize)
             & is_between(FIRST_CODE, LAST_STEEL, v.dowel.steel as usize))
         & positions_within(&v.positions)
-        & loads_within(&v.loads);
+        & loads_within(&v.loads)
+}
+
+// Refusals 7 to 9: the first that values have, whether a record has them or a writer is handed them.
+#[tactic(auto, unfolding(crate::specs::Refusal::first_holding, crate::specs::Refusal::empty_outlines))]
+pub fn check_values(v: &Values) -> Result<(), Refusal>
+    ensures { refusal_in result ≡ first_holding (value_tests v.now) }
+{
+    let within = fields_within(v);
     let empty = outline_empty(v.members.member1.outline) | outline_empty(v.members.member2.outline);
     if !within {
         return Err(Refusal::FieldOutside);

@@ -36,7 +36,7 @@ pub enum Rejection {
 }
 
 impl Rejection {
-    ghost use Rattle.joint.specs.Told.{fault_in};
+    ghost use Rattle.joint.specs.Told.{fault_in, plan_fault};
 
     pub fn number(self) -> u8
         ensures { result ≡ (fault_in self).number }
@@ -47,33 +47,33 @@ impl Rejection {
         }
     }
 
-    // The place: member and dowels, counted from 1; 0 where the number has none. Three alike, one for each of its numbers: a `match` says
-    // each in two lines, and a helper for all would have to answer three numbers or take a function.
+    // The fault in the drill plan, where it is one.
+    fn fault(self) -> Option<Fault>
+        ensures { result ≡ plan_fault self }
+    {
+        match self {
+            Rejection::Record(_) => None,
+            Rejection::Plan(fault) => Some(fault),
+        }
+    }
+
+    // The place: member and dowels, counted from 1; 0 where the number has none.
     pub fn member(self) -> u8
         ensures { result ≡ (fault_in self).member }
     {
-        match self {
-            Rejection::Record(_) => 0,
-            Rejection::Plan(fault) => fault.member(),
-        }
+        self.fault().map_or(0, Fault::member)
     }
 
     pub fn first(self) -> u8
         ensures { result ≡ (fault_in self).first }
     {
-        match self {
-            Rejection::Record(_) => 0,
-            Rejection::Plan(fault) => fault.first(),
-        }
+        self.fault().map_or(0, Fault::first)
     }
 
     pub fn second(self) -> u8
         ensures { result ≡ (fault_in self).second }
     {
-        match self {
-            Rejection::Record(_) => 0,
-            Rejection::Plan(fault) => fault.second(),
-        }
+        self.fault().map_or(0, Fault::second)
     }
 }
 

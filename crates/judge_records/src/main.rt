@@ -18,12 +18,13 @@ fn write_named(rt: &HostRuntime, name: &str, line: &str) -> io::Result<()> {
     rt.write_all(text.as_bytes())
 }
 
-// Writes the line of a file. What fails is told to standard error, and the next file is judged.
+// Writes the line of a file. What fails is told to standard error, and the next file is judged. It is no `console::answer`, since it writes the
+// file's name before the line, by one write.
 fn judge_file(rt: &HostRuntime, path: &str, opened: File) {
     let mut file = Noting::new(opened);
     let mut buffer = [0u8; 4096];
     let a = console::judged(&mut file, &mut buffer);
-    if a.line.is_empty() {
+    if a.judgement.is_none() {
         file.tell(rt, path);
     } else if let Err(error) = write_named(rt, path, a.line.as_str()) {
         failure::fail(rt, "standard output", error);

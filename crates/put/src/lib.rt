@@ -36,6 +36,9 @@ const OUTLINE: usize = 4;
 // Where fx and fy stand in their part, after kind, service class and duration.
 const FORCE: usize = 3;
 
+// Here and below `s` is the whole record and `at` a place in it, a number and no slice from there on: the laws of runs of stores
+// (numbers/proofs/Bytes.antt) speak of one list and places in it.
+
 // Two functions for two numbers each, of two bytes and of four: one over both widths would need a trait that says how each is put.
 fn put_pair(s: &mut [u8], at: usize, first: u16, second: u16)
     requires { at + 4 ≤ length s.old }

@@ -1,40 +1,45 @@
 -- Laws of a table's entries: the next one of a stretch of bytes, and what is found at a code.
-use Prim.Native.Nat.{ℕ, ◌+◌, ◌*◌, ◌-◌, ◌≤◌, ◌<◌}
+use Prim.Native.Nat.{ℕ, suc, ◌+◌, ◌/◌, ◌≤◌, ◌<◌}
+use Rattle.std.specs.Simd.{first_chunks}
 use native.Mathlib.Omega.{arith}
 use mathlib.Core.Path.{◌≡◌, refl, sym, ap, ◌∙◌}
-use mathlib.Core.Bool.{Bool, true, false}
+use mathlib.Core.Bool.{Bool, true, false, ◌&&◌}
 use mathlib.Core.List.{List, [], ◌∷◌, map}
-use lib.Dec.{eqb}
-use lib.ListN.{length, get_or, take, drop}
+use lib.Dec.{eqb, ltb}
+use lib.ListN.{length, get_or, drop}
 use Rattle.std.specs.Prelude.{Option, Some, None, find, option_map, option_and_then, MatchOption, IsSomeAnd}
-use Rattle.std.proofs.lemmas.List.{take_rest}
 use Rattle.codes.specs.declared.Wood.{Wood}
 use Rattle.codes.specs.Tables.{lookup}
 use Rattle.tables.specs.declared.entry.Entry.{Entry}
-use Rattle.tables.specs.Table.{entry_at, entries_in, class_of, line_of}
+use lib.Seq.{drop-cons}
+use Rattle.std.proofs.Math.ListN.{drop_of_length-le}
+use Rattle.tables.specs.Table.{entry_within, rise, entry_at, entries_in, class_of, line_of}
 
--- fewer than four bytes are no entry
-pub few : (s : List ℕ) → length s < 4 → entries_in s ≡ []
+-- four bytes to each entry
+chunks : (s : List ℕ) → map (λ (b : List ℕ). entry_at b 0) (first_chunks 4 (length s / 4) s) ≡ entries_in s
 unfolding entries_in
-few [] h = refl
-few (a ∷ []) h = refl
-few (a ∷ b ∷ []) h = refl
-few (a ∷ b ∷ c ∷ []) h = refl
-few (a ∷ b ∷ c ∷ d ∷ s) h = absurd (omega arith)
+chunks [] = refl
+chunks (a ∷ []) = refl
+chunks (a ∷ b ∷ []) = refl
+chunks (a ∷ b ∷ c ∷ []) = refl
+chunks (a ∷ b ∷ c ∷ d ∷ s) =
+    let n : length (a ∷ b ∷ c ∷ d ∷ s) / 4 ≡ suc (length s / 4) = omega arith in
+    rw n (ap (λ (l : List Entry). entry_at (a ∷ b ∷ c ∷ d ∷ []) 0 ∷ l) (chunks s))
 
--- four more are one
-one : (s : List ℕ) → 4 ≤ length s → entries_in s ≡ entry_at s 0 ∷ entries_in (drop 4 s)
-unfolding entries_in
-one [] h = absurd (omega arith)
-one (a ∷ []) h = absurd (omega arith)
-one (a ∷ b ∷ []) h = absurd (omega arith)
-one (a ∷ b ∷ c ∷ []) h = absurd (omega arith)
-one (a ∷ b ∷ c ∷ d ∷ s) h = refl
+pub in_fours : (s : List ℕ) {l : List (List ℕ)} → l ≡ first_chunks 4 (length s / 4) s → map (λ (b : List ℕ). entry_at b 0) l ≡ entries_in s
+in_fours s e = ap (map (λ (b : List ℕ). entry_at b 0)) e ∙ chunks s
 
--- as the pattern of the code takes them apart
-pub next : (s : List ℕ) {d : ℕ} → 4 ≤ length s → d ≡ get_or s 2 0 + get_or s 3 0 * 256
-    → entries_in s ≡ record { code = get_or s 0 0; kind = get_or s 1 0; density = d } ∷ entries_in (take (length s - 4) (drop 4 s))
-next s h e = rw (take_rest s 4, e) (one s h)
+-- where the entries from number i on rise
+pub rises : (l : List (List ℕ)) (before i : ℕ) → i < length l
+    → rise before (map (λ (b : List ℕ). entry_at b 0) (drop i l))
+    ≡ (entry_within (entry_at (get_or l i []) 0) && ltb before (entry_at (get_or l i []) 0).code
+    && rise (entry_at (get_or l i []) 0).code (map (λ (b : List ℕ). entry_at b 0) (drop (i + 1) l)))
+unfolding rise
+rises l before i h = let e : i + 1 ≡ suc i = omega arith in rw e (ap (λ (m : List (List ℕ)). rise before (map (λ (b : List ℕ). entry_at b 0) m)) (drop-cons l i [] h))
+
+pub risen : (l : List (List ℕ)) (before i : ℕ) → length l ≤ i → rise before (map (λ (b : List ℕ). entry_at b 0) (drop i l)) ≡ true
+unfolding rise
+risen l before i h = ap (λ (m : List (List ℕ)). rise before (map (λ (b : List ℕ). entry_at b 0) m)) (drop_of_length-le l h)
 
 -- the first entry of a code says what the table has there
 looked_up : (code : ℕ) (es : List Entry) → lookup None (map line_of es) code ≡ option_and_then class_of (find (λ e. eqb code e.code) es)

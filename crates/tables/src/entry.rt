@@ -1,6 +1,6 @@
 // The entries of a firm's own table.
-ghost use Rattle.std.specs.Prelude.{◌≡◌, Some, drop};
-ghost use Rattle.tables.specs.Table.{entry_within, class_of};
+ghost use Rattle.std.specs.Prelude.{◌≡◌, Some, map, drop};
+ghost use Rattle.tables.specs.Table.{entry_within, class_of, entry_at, entries_of};
 
 use codes::{Kind, Wood};
 
@@ -46,39 +46,34 @@ impl From<Entry> for Wood {
     }
 }
 
-// The entries of a stretch of bytes, four to each.
-#[derive(Drop)]
-pub(crate) struct Entries<'a>(&'a [u8]);
+// An entry from its bytes.
+impl From<[u8; ENTRY_BYTES]> for Entry {
+    ghost use Rattle.tables.specs.Table.{entry_at};
 
-impl<'a> Entries<'a> {
-    // Those of a table: after the pair, up to its end.
-    pub(crate) fn of(table: &'a [u8]) -> Self
-        ensures { result.0.now ≡ drop 6 table.now }
-    {
-        Entries(table.get(crate::FRONT_BYTES..).unwrap_or(&[]))
+    ghost from_gives = { λ bytes e. e ≡ entry_at bytes 0 };
+
+    fn from(bytes: [u8; ENTRY_BYTES]) -> Entry {
+        let [code, kind, low, high] = bytes;
+        Entry {
+            code,
+            kind,
+            density: u16::from_le_bytes([low, high]),
+        }
     }
 }
 
-impl Iterator for Entries<'_> {
-    ghost use Rattle.std.specs.Iterator.{YieldsFirst, item_count};
-    ghost use Rattle.tables.specs.Table.{entries_in};
+// What of a table comes after the pair, up to its end.
+fn after_pair(table: &[u8]) -> &[u8]
+    ensures { result.now ≡ drop 6 table.now }
+{
+    table.get(crate::FRONT_BYTES..).unwrap_or(&[])
+}
 
-    type Item = Entry;
-
-    ghost next_gives = { YieldsFirst (λ s. entries_in s.0.now) };
-
-    ghost remaining = { item_count (λ s. entries_in s.0.now) };
-
-    #[tactic(auto, using(crate::proofs::Entries::few, crate::proofs::Entries::next))]
-    fn next(&mut self) -> Option<Entry> {
-        let [code, kind, low, high, rest @ ..] = self.0 else {
-            return None;
-        };
-        self.0 = rest;
-        Some(Entry {
-            code: *code,
-            kind: *kind,
-            density: u16::from_le_bytes([*low, *high]),
-        })
-    }
+// The entries of a table, each in its four bytes.
+#[tactic(auto, using(crate::proofs::Entries::in_fours))]
+pub(crate) fn entries(table: &[u8]) -> &[[u8; ENTRY_BYTES]]
+    ensures { map (λ bytes. entry_at bytes 0) result.now ≡ entries_of table.now }
+{
+    let (entries, _) = after_pair(table).as_chunks();
+    entries
 }

@@ -11,7 +11,7 @@ ghost use Rattle.tables.specs.Told.{number_of, told};
 
 use chain::Width;
 use codes::Wood;
-use entry::{ENTRY_BYTES, Entries};
+use entry::{ENTRY_BYTES, Entry, entries};
 use numbers::u16_at;
 
 // How many pairs a table has, where it stands, and where the entries start: right after the pair.
@@ -41,12 +41,13 @@ impl Refusal {
 }
 
 // Whether each entry is within its limits, with a code above the one before.
-#[tactic(auto, unfolding(crate::specs::Table::rise))]
+#[tactic(auto, using(crate::proofs::Entries::rises, crate::proofs::Entries::risen), unfolding(crate::specs::Table::rise))]
 fn all_rise(table: &[u8]) -> bool
     ensures { result ≡ rise 0 (entries_of table.now) }
 {
     let mut before = 0;
-    for e in Entries::of(table) {
+    for bytes in entries(table) {
+        let e = Entry::from(*bytes);
         if !(e.is_within() & (before < e.code)) {
             return false;
         }
@@ -72,7 +73,7 @@ fn is_laid(table: &[u8]) -> bool
         return false;
     }
     let bytes = u16_at(table, LENGTH_AT) as usize;
-    bytes % ENTRY_BYTES == 0
+    bytes.is_multiple_of(ENTRY_BYTES)
 }
 
 // Loads a firm's own table, or turns it away.
@@ -93,10 +94,14 @@ pub fn load(table: &[u8]) -> Result<(), Refusal>
 fn own_class(table: &[u8], code: u8) -> Option<Wood>
     ensures { result ≡ class_in (own_table table.now).classes code }
 {
-    Entries::of(table).find(|e| code == e.code).map(Wood::from)
+    entries(table)
+        .iter()
+        .map(|bytes| Entry::from(*bytes))
+        .find(|e| code == e.code)
+        .map(Wood::from)
 }
 
-// Which table a call uses: the printed one, or the firm's own.
+// Which table a call uses: the printed one, or the firm's own. A value that callers hold, with methods, and no closure.
 #[derive(Clone, Copy)]
 pub enum Source<'a> {
     Printed,

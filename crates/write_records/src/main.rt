@@ -102,11 +102,9 @@ impl<'a> Case<'a> {
     // The numbers from k on, 0 past the end: as many as number `count_at` names.
     fn list(self, rt: &HostRuntime, k: usize, count_at: usize) -> Result<Vec<i32>, AllocError> {
         let rest = self.rest(k);
-        let mut list = Vec::new(rt.alloc());
-        for i in 0..self.length(count_at, MOST) {
-            list.push(rest.number(i).unwrap_or(0))?;
-        }
-        Ok(list)
+        (0..self.length(count_at, MOST))
+            .map(|i| rest.number(i).unwrap_or(0))
+            .collect::<Vec<i32>>(rt.alloc())
     }
 
     fn run(self, rt: &HostRuntime) -> io::Result<()> {

@@ -81,6 +81,7 @@ impl From<Refusal> for Unwritten {
 // Writes the record of a firm's numbers, in the version that they name, into the buffer's first bytes and reports how many. The tests of a
 // record's values come first, and then whether the buffer is long enough; on refusal the buffer stays as it is. Version 1 has no marks, and
 // they are not looked at. A list for each of x, y and marks, since C lends them so.
+#[tactic(auto, using(crate::proofs::Steps::put_given))]
 pub fn write(
     f: &Fields,
     x: &[i32],
@@ -90,15 +91,11 @@ pub fn write(
 ) -> Result<usize, Unwritten>
     ensures { Wrote f.now x.now y.now buffer.old buffer.new (told result) }
 {
-    let Some(version) = check::known_version(f) else {
-        return Err(Refusal::OtherVersion.into());
-    };
+    let version = check::known_version(f).ok_or(Refusal::OtherVersion)?;
     if y.len() != x.len() || MOST_DOWELS < x.len() {
         return Err(Refusal::FieldOutside.into());
     }
-    let Some(values) = check::values_from(version, f, x, y) else {
-        return Err(Refusal::FieldOutside.into());
-    };
+    let values = check::values_from(version, f, x, y).ok_or(Refusal::FieldOutside)?;
     check_values(&values)?;
     let length = RECORD_BYTES + POSITION_BYTES * x.len();
     if buffer.len() < length {

@@ -1,46 +1,46 @@
 -- Each return by the law of its test.
-use Rattle.std.proofs.lemmas.Result.{err_from_is_err_and}
-use Rattle.writer.proofs.Steps.{version_refused, lists_differ, lists_long, fields_refused, values_refused, buffer_refused, put_given, written}
+use mathlib.Core.Path.{◌∙◌, sym}
+use Rattle.joint.proofs.Tests.{handed_on, lacked}
+use Rattle.writer.proofs.Steps.{version_refused, lists_differ, lists_long, fields_refused, values_refused, buffer_refused, written}
 use Rattle.writer.proofs.write.Goals as goal
 use Rattle.writer.proofs.write.Goals.{then-y-x-via-then-y-x, then-y-x-via-else-y-x+then-x-gt-MOST_DOWELS}
 
-pub returns-in_default : goal.returns-in_default
-returns-in_default c = rw c.into.ensures (version_refused _ _ _ _ c.in_default.ensures)
+pub returns-in_err-version : goal.returns-in_err-version
+returns-in_err-version c =
+    let n = lacked c.in_err-version.ensures.value c.known_version.ensures in
+    rw (handed_on _ c.from_residual.ensures.1, n.1) (version_refused _ _ _ _ n.0)
 
 pub returns-then-y-x : goal.returns-then-y-x
 returns-then-y-x c =
-    rw c.into-then-y-x.ensures
+    let known = sym c.in_ok-version.ensures.ok_part ∙ c.known_version.ensures in
+    rw c.into.ensures
     (elim c.then-y-x.branch [
-      | then-y-x-via-then-y-x w ↦ lists_differ _ _ _ _ c.in-Some.ensures w.if-y-x.true
-      | then-y-x-via-else-y-x+then-x-gt-MOST_DOWELS w ↦ lists_long _ _ _ _ c.in-Some.ensures w.if-x-gt-MOST_DOWELS.true
+      | then-y-x-via-then-y-x w ↦ lists_differ _ _ _ _ known w.if-y-x.true
+      | then-y-x-via-else-y-x+then-x-gt-MOST_DOWELS w ↦ lists_long _ _ _ _ known w.if-x-gt-MOST_DOWELS.true
     ])
 
-pub returns-in_default-values_from : goal.returns-in_default-values_from
-returns-in_default-values_from c =
-    rw c.into-in_default-values_from.ensures (fields_refused _ _ _ _ c.in-Some.ensures c.in_default-values_from.ensures)
+pub returns-in_err-values : goal.returns-in_err-values
+returns-in_err-values c =
+    let known = sym c.in_ok-version.ensures.ok_part ∙ c.known_version.ensures in
+    let n = lacked c.in_err-values.ensures.value c.values_from.ensures in
+    rw (handed_on _ c.from_residual-in_err-values.ensures.1, n.1) (fields_refused _ _ _ _ known n.0)
 
 pub returns-in_err-check_values : goal.returns-in_err-check_values
 returns-in_err-check_values c =
-    let p = err_from_is_err_and c.from_residual.result c.from_residual.ensures.1 in
-    rw (p.1, p.2)
-    (values_refused _ _ _ _ c.in-Some.ensures c.if-y-x.false c.if-x-gt-MOST_DOWELS.false c.in-Some-values_from.ensures _
-    c.in_err-check_values.ensures)
+    let known = sym c.in_ok-version.ensures.ok_part ∙ c.known_version.ensures in
+    let fitted = sym c.in_ok-values.ensures.ok_part ∙ c.values_from.ensures in
+    rw (handed_on _ c.from_residual-in_err-check_values.ensures.1)
+    (values_refused _ _ _ _ known c.if-y-x.false c.if-x-gt-MOST_DOWELS.false fitted _ c.in_err-check_values.ensures)
 
 pub returns-then-buffer-length : goal.returns-then-buffer-length
 returns-then-buffer-length c =
-    buffer_refused _ _ _ _ c.in-Some.ensures c.if-y-x.false c.if-x-gt-MOST_DOWELS.false c.in-Some-values_from.ensures
-    c.in_ok-check_values.ensures
-    c.if-buffer-length.true
-
-pub put_record-requires : goal.put_record-requires
-put_record-requires c =
-    put_given _ _ _ _ c.in-Some.ensures c.if-y-x.false c.if-x-gt-MOST_DOWELS.false c.in-Some-values_from.ensures
-    c.in_ok-check_values.ensures
-    c.if-buffer-length.false
+    let known = sym c.in_ok-version.ensures.ok_part ∙ c.known_version.ensures in
+    let fitted = sym c.in_ok-values.ensures.ok_part ∙ c.values_from.ensures in
+    buffer_refused _ _ _ _ known c.if-y-x.false c.if-x-gt-MOST_DOWELS.false fitted c.in_ok-check_values.ensures c.if-buffer-length.true
 
 pub returns : goal.returns
 returns c =
-    written _ _ _ _ c.in-Some.ensures c.if-y-x.false c.if-x-gt-MOST_DOWELS.false c.in-Some-values_from.ensures
-    c.in_ok-check_values.ensures
-    c.if-buffer-length.false
+    let known = sym c.in_ok-version.ensures.ok_part ∙ c.known_version.ensures in
+    let fitted = sym c.in_ok-values.ensures.ok_part ∙ c.values_from.ensures in
+    written _ _ _ _ known c.if-y-x.false c.if-x-gt-MOST_DOWELS.false fitted c.in_ok-check_values.ensures c.if-buffer-length.false
     c.put_record.ensures
