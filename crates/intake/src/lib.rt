@@ -9,13 +9,14 @@ use std::fs::File;
 use std::io::{ErrorKind, Read};
 use std::{io, str};
 
-// The longest name that a file may have, and how many are read at most. A name is read into an array: `env::arg` wants lent room for it,
-// and so no memory is asked for.
+// The longest name that a file may have, and how many arguments are looked at, the program's own name first. A name is read into an array:
+// `env::arg` wants lent room for it, and so no memory is asked for.
 const LONGEST_NAME: usize = 4096;
 
 const MOST_FILES: usize = 1000;
 
-// Hands the name and the file of each argument to `each`, up to the first whose name is too long or no text, or that cannot be opened.
+// Hands the name and the file of each argument to `each`, up to the first whose name is too long or no text, that cannot be opened, or
+// where `each` fails.
 // One at a time, since `env::args` fails where any argument is no text, before a file is read.
 pub fn each_file<F: FnMut(&str, File) -> io::Result<()>>(
     rt: &HostRuntime,

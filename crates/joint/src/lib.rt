@@ -32,7 +32,7 @@ pub struct Outline {
 }
 
 // Grain 0 runs along x, 1 along y; thickness in tenths of a millimetre. Class and grain here, and steel, service class and duration below, are
-// the record's numbers and no enums, since one outside its list is a refusal (7) and not a reading that fails.
+// the record's numbers and no enums, since values are read before they are tested.
 #[derive(Clone, Copy, Default)]
 pub struct Member {
     pub class: u8,
@@ -56,8 +56,8 @@ pub struct Dowel {
     pub steel: u8,
 }
 
-// Kind 3. Coordinates in tenths of a millimetre; places from n on are 0. Arrays by value and a count, as 01 names them: no heap. That n is at
-// most 64 is no ghost field, since values are read before they are tested.
+// Kind 3. Coordinates in tenths of a millimetre; places from n on are 0. Two arrays by value, as 01 names them, and their number beside them,
+// since there is no heap. That n is at most 64 is no ghost field, since values are read before they are tested.
 #[derive(Clone, Copy, Default)]
 pub struct Positions {
     pub n: usize,

@@ -38,7 +38,7 @@ const LEAST_DIAMETER: usize = 6;
 
 const MOST_DIAMETER: usize = 30;
 
-// One call of std under the record's word, so that each limit below is an equation with the definition's `between`. The limits of one part are
+// One call of std under the record's word, `between`, by which the definitions tell a limit. The limits of one part are
 // joined by `&`: no field's test hides another's; of the positions N's comes first, as it says how many to test (docs/DECISIONS.md).
 fn is_between(low: usize, high: usize, n: usize) -> bool
     ensures { result ≡ between low high n }

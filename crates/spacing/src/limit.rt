@@ -1,4 +1,4 @@
-// Each irrational limit of Table 8 as the least whole number of tenths that passes, found once a member.
+// Each irrational limit of Table 8 as the least whole number of tenths that passes, found once for the pairs and for each end of a member.
 ghost use Rattle.std.specs.Prelude.{◌≡◌, ◌≤◌, List, ℤ};
 ghost use Rattle.spacing.specs.Spacing.{
   square,

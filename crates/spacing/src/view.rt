@@ -20,8 +20,8 @@ pub struct Piece {
     pub y1: i32,
 }
 
-// The diameter in mm, the force into member 2 in N, and the first `count` places of dowels, in tenths. Arrays of fixed size by value beside
-// their number, as document 01 names the form: no heap.
+// The diameter in mm, the force into member 2 in N, and the first `count` places of dowels, in tenths. Two arrays by value, as document 01
+// names them, and their number beside them, since there is no heap.
 #[derive(Clone, Copy)]
 pub struct Plan {
     pub diameter: u64,
@@ -44,7 +44,7 @@ pub struct Frame {
     pub sideways: i32,
 }
 
-// A member's frame, and the dowels' coordinates along and across its grain.
+// A member's frame, and the dowels' coordinates along and across its grain: the plan's two arrays, as document 01 names them.
 #[derive(Clone, Copy)]
 pub struct View {
     pub frame: Frame,
@@ -91,7 +91,7 @@ impl Plan {
     }
 }
 
-// Six parameters stay: a `Plan` would ask more of callers, its diameter, its count and some force.
+// Six parameters stay for callers elsewhere: a `Plan` would ask more of them, its diameter, its count and some force.
 pub fn view_of(which: Which, m: Piece, fx: i32, fy: i32, x: [i32; 64], y: [i32; 64]) -> View
     requires { (nat_abs fx ≤ 1000000) × (nat_abs fy ≤ 1000000) }
     ensures { result ≡ view_of which m fx fy x y }

@@ -11,8 +11,8 @@ pub fn whole_square_root(n: u64) -> u64
     n.isqrt()
 }
 
-// The greatest number at which a test passes, known to be at least low and below high: the last one from low on at which it
-// passes. It is tried only below high.
+// A number from low on and below high at which a test passes and fails at the next one: where the test falls, the greatest at which it passes.
+// It is tried only below high.
 pub fn greatest_between<F: Fn(u64) -> bool>(low: u64, high: u64, passes: &F) -> u64
     requires apart { low < high }
     requires tried { (number : ℕ) → number < high → F.pre passes.now number }
