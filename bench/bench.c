@@ -1,6 +1,6 @@
-/* Times the three entries of negwishal.h against a floating-point and, with WITH_GMP, an exact version of the same
- * jobs, holds their answers to one another, and measures the stack.  bench [FILE..]: the records in the files are
- * compared too. */
+/* Times the entries of negwishal.h against a floating-point and, with WITH_GMP, an exact version of the same jobs,
+ * without and with a table of classes, holds their answers to one another, and measures the stack.  bench [FILE..]: the
+ * records in the files are compared too, by every table; a file whose name ends in .tab is one table more. */
 #define _GNU_SOURCE
 #include <inttypes.h>
 #include <pthread.h>
@@ -16,17 +16,23 @@
 #define BATCH_NS 4000000.0
 #define TIMED 7
 #define JOINTS 8 /* the timed ones, and one that is not timed */
+#define TABLED 3 /* joint B, timed by three tables */
 
 static const struct {
     const char *name;
     judge_fn *judge;
     write_fn *write;
     read_fn *read;
+    load_fn *load;
+    judge_with_fn *judge_with;
+    write_with_fn *write_with;
+    read_with_fn *read_with;
 } VERSION[] = {
-    {"proved", negwishal_judge, negwishal_write, negwishal_read},
-    {"float", float_judge, float_write, float_read},
+    {"proved", negwishal_judge, negwishal_write, negwishal_read, negwishal_load, negwishal_judge_with,
+     negwishal_write_with, negwishal_read_with},
+    {"float", float_judge, float_write, float_read, float_load, float_judge_with, float_write_with, float_read_with},
 #ifdef WITH_GMP
-    {"GMP", exact_judge, exact_write, exact_read},
+    {"GMP", exact_judge, exact_write, exact_read, exact_load, exact_judge_with, exact_write_with, exact_read_with},
 #endif
 };
 enum { VERSIONS = sizeof VERSION / sizeof VERSION[0] };
@@ -43,19 +49,58 @@ struct values {
     uint64_t answer[2]; /* refusal, number of dowels */
 };
 
+/* A firm's table: up to 255 entries of 4 behind 6 bytes, and some bytes more. */
+struct table {
+    const char *name;
+    size_t length;
+    uint8_t bytes[6 + 4 * 255 + 8];
+};
+
 struct record {
     const char *name;
     double target_ns;
+    const struct table *table; /* by which it is judged, read and written; NULL: by the entries without a table */
     size_t length;
     uint8_t bytes[4096];
     struct values values;
 };
 
+/* The three jobs by a table; by the printed one where it is NULL. */
+static inline __attribute__((always_inline)) void judge_by(int version, const struct table *t, const uint8_t *record,
+                                                           size_t length, uint64_t *report)
+{
+    if (t == NULL)
+        VERSION[version].judge(record, length, report, 8);
+    else
+        VERSION[version].judge_with(t->bytes, t->length, record, length, report, 8);
+}
+
+static inline __attribute__((always_inline)) void write_by(int version, const struct table *t, const struct values *v,
+                                                           size_t x_len, size_t y_len, uint8_t *buffer, size_t room,
+                                                           uint64_t *answer)
+{
+    if (t == NULL)
+        VERSION[version].write(v->fields, VALUES, v->x, x_len, v->y, y_len, v->marks, x_len, buffer, room, answer, 2);
+    else
+        VERSION[version].write_with(t->bytes, t->length, v->fields, VALUES, v->x, x_len, v->y, y_len, v->marks, x_len,
+                                    buffer, room, answer, 2);
+}
+
+static inline __attribute__((always_inline)) void read_by(int version, const struct record *r, struct values *v)
+{
+    const struct table *t = r->table;
+    if (t == NULL)
+        VERSION[version].read(r->bytes, r->length, v->fields, VALUES, v->x, DOWELS, v->y, DOWELS, v->marks, DOWELS,
+                              v->answer, 2);
+    else
+        VERSION[version].read_with(t->bytes, t->length, r->bytes, r->length, v->fields, VALUES, v->x, DOWELS, v->y,
+                                   DOWELS, v->marks, DOWELS, v->answer, 2);
+}
+
 static void read_values(int version, const struct record *r, struct values *v)
 {
     memset(v, 0x5a, sizeof *v);
-    VERSION[version].read(r->bytes, r->length, v->fields, VALUES, v->x, DOWELS, v->y, DOWELS, v->marks, DOWELS,
-                          v->answer, 2);
+    read_by(version, r, v);
 }
 
 /* What a writer leaves: refusal, length, and the buffer whole. */
@@ -64,12 +109,11 @@ struct written {
     uint8_t buffer[ROOM];
 };
 
-static void write_values(int version, const struct values *v, size_t x_len, size_t y_len, size_t room,
-                         struct written *w)
+static void write_values(int version, const struct table *t, const struct values *v, size_t x_len, size_t y_len,
+                         size_t room, struct written *w)
 {
     memset(w, 0x5a, sizeof *w);
-    VERSION[version].write(v->fields, VALUES, v->x, x_len, v->y, y_len, v->marks, x_len, w->buffer, room, w->answer,
-                           2);
+    write_by(version, t, v, x_len, y_len, w->buffer, room, w->answer);
 }
 
 static void put16(struct record *r, unsigned v)
@@ -95,6 +139,7 @@ static void write_record(struct record *r, const char *name, double target_ns, u
     unsigned offset = 20;
     r->name = name;
     r->target_ns = target_ns;
+    r->table = NULL;
     r->length = 0;
     put16(r, 1);
     put16(r, 4);
@@ -175,6 +220,117 @@ static void write_records(struct record r[JOINTS])
     write_record(&r[7], "64, skew, oak in softwood", 0, 2, mixed, 12, 1, 64, grid, 120000, -170000);
 }
 
+/* ---- tables */
+
+static void put_entry(struct table *t, unsigned code, unsigned kind, unsigned density)
+{
+    const uint8_t entry[4] = {(uint8_t)code, (uint8_t)kind, (uint8_t)density, (uint8_t)(density >> 8)};
+    memcpy(t->bytes + t->length, entry, sizeof entry);
+    t->length += sizeof entry;
+}
+
+/* count, offset and, as it now is, the length of the entries */
+static void put_front(struct table *t)
+{
+    const size_t length = t->length - 6;
+    const uint8_t front[6] = {1, 0, 6, 0, (uint8_t)length, (uint8_t)(length >> 8)};
+    memcpy(t->bytes, front, sizeof front);
+}
+
+static struct table *start(struct table *t, const char *name)
+{
+    t->name = name;
+    t->length = 6;
+    return t;
+}
+
+static void one_class(struct table *t, const char *name, unsigned code, unsigned kind, unsigned density)
+{
+    put_entry(start(t, name), code, kind, density);
+    put_front(t);
+}
+
+enum {
+    PRINTED, /* in this layout */
+    HARD_900,
+    SOFT_900,
+    CODES_255,
+    ALONE,
+    LACKING,
+    NO_BYTES,
+    LATE,
+    TRAILING,
+    DENSE,
+    EQUAL,
+    BOTH_FAULTS,
+    TABLES
+};
+static struct table tables[TABLES + 8]; /* and those from files */
+
+/* The class of joint B's members where it is judged by a table. */
+static uint8_t class_by(int table) { return table == CODES_255 ? 255 : table == ALONE ? 200 : 1; }
+
+static void write_tables(void)
+{
+    static const uint16_t printed[11] = {350, 380, 385, 365, 425, 390, 440, 400, 530, 550, 900};
+    start(&tables[PRINTED], "printed, 11 entries");
+    for (unsigned k = 0; k < 11; k++)
+        put_entry(&tables[PRINTED], k + 1, k >= 8, printed[k]);
+    put_front(&tables[PRINTED]);
+    one_class(&tables[HARD_900], "class 1 hardwood 900", 1, 1, 900);
+    one_class(&tables[SOFT_900], "class 1 softwood 900", 1, 0, 900);
+    start(&tables[CODES_255], "255 entries, class last"); /* the last is class 1 of the printed one */
+    for (unsigned k = 1; k < 255; k++)
+        put_entry(&tables[CODES_255], k, k % 2, 290 + 3 * k);
+    put_entry(&tables[CODES_255], 255, 0, printed[0]);
+    put_front(&tables[CODES_255]);
+    one_class(&tables[ALONE], "200 alone, class 200", 200, 1, 660);
+    one_class(&tables[LACKING], "200 alone, class 1", 200, 1, 660);
+    start(&tables[NO_BYTES], "14: no bytes")->length = 0;
+    one_class(&tables[LATE], "14: offset 7", 1, 0, 350);
+    tables[LATE].bytes[2] = 7;
+    one_class(&tables[TRAILING], "14: a byte more", 1, 0, 350);
+    tables[TRAILING].length++;
+    one_class(&tables[DENSE], "15: density 1,101", 1, 0, 1101);
+    one_class(&tables[EQUAL], "15: codes equal", 1, 0, 350);
+    put_entry(&tables[EQUAL], 1, 1, 900);
+    put_front(&tables[EQUAL]);
+    one_class(&tables[BOTH_FAULTS], "14 before 15", 0, 0, 350);
+    tables[BOTH_FAULTS].length++;
+}
+
+/* The classes of members 1 and 2 of a record that write_record wrote. */
+static void set_classes(struct record *r, uint8_t class_1, uint8_t class_2)
+{
+    r->bytes[22] = class_1;
+    r->bytes[42] = class_2;
+}
+
+/* Joint B in wide outlines, the force across the grain: there the kind of wood shows. */
+static void write_across(struct record *r, const struct table *t, uint8_t class)
+{
+    static const int32_t roomy[2][7] = {
+        {1, 0, 600, -90000, -90000, 90000, 90000},
+        {1, 0, 800, -90000, -90000, 90000, 90000}};
+    static const int32_t four[4][2] = {{0, 0}, {600, 0}, {0, 360}, {600, 360}};
+    write_record(r, t->name, 0, 2, roomy, 12, 1, 4, four, 0, 20000);
+    set_classes(r, class, class);
+    r->table = t;
+}
+
+/* Joint B by the printed table, by its 11 entries, and by 255 entries of which the last is its class. */
+static void write_tabled(struct record r[TABLED], const struct record *b)
+{
+    static const char *const names[TABLED] = {"printed table", "table of 11", "table of 255, class last"};
+    static const struct table *const by[TABLED] = {NULL, &tables[PRINTED], &tables[CODES_255]};
+    for (int k = 0; k < TABLED; k++) {
+        r[k] = *b;
+        r[k].name = names[k];
+        r[k].table = by[k];
+    }
+    set_classes(&r[2], 255, 255);
+}
+
 static double now_ns(void)
 {
     struct timespec t;
@@ -192,13 +348,11 @@ static inline __attribute__((always_inline)) void call(enum job job, int version
 {
     const struct values *in = &r->values;
     if (job == JUDGE)
-        VERSION[version].judge(r->bytes, r->length, report, 8);
+        judge_by(version, r->table, r->bytes, r->length, report);
     else if (job == WRITE)
-        VERSION[version].write(in->fields, VALUES, in->x, in->answer[1], in->y, in->answer[1], in->marks, in->answer[1],
-                               buffer, ROOM, report, 2);
+        write_by(version, r->table, in, in->answer[1], in->answer[1], buffer, ROOM, report);
     else
-        VERSION[version].read(r->bytes, r->length, out.fields, VALUES, out.x, DOWELS, out.y, DOWELS, out.marks, DOWELS,
-                              out.answer, 2);
+        read_by(version, r, &out);
 }
 
 static double batch(enum job job, int version, const struct record *r, long calls)
@@ -215,25 +369,28 @@ static int order(const void *a, const void *b)
     return (x > y) - (x < y);
 }
 
-/* Median nanoseconds a call; the versions and the jobs take turns, batch by batch. */
-static void time_record(const struct record *r, double median[JOBS][VERSIONS])
+/* Median nanoseconds a call; the records, up to TABLED, the jobs and the versions take turns, batch by batch. */
+static void time_records(const struct record *r, int records, double median[][JOBS][VERSIONS])
 {
-    static double ns[JOBS][VERSIONS][BATCHES];
-    long calls[JOBS][VERSIONS];
-    for (int j = 0; j < JOBS; j++)
-        for (int v = 0; v < VERSIONS; v++) {
-            batch(j, v, r, 50);
-            calls[j][v] = 1 + (long)(BATCH_NS / batch(j, v, r, 50));
-        }
+    static double ns[TABLED][JOBS][VERSIONS][BATCHES];
+    long calls[TABLED][JOBS][VERSIONS];
+    for (int i = 0; i < records; i++)
+        for (int j = 0; j < JOBS; j++)
+            for (int v = 0; v < VERSIONS; v++) {
+                batch(j, v, &r[i], 50);
+                calls[i][j][v] = 1 + (long)(BATCH_NS / batch(j, v, &r[i], 50));
+            }
     for (int k = 0; k < BATCHES; k++)
         for (int j = 0; j < JOBS; j++)
             for (int v = 0; v < VERSIONS; v++)
-                ns[j][v][k] = batch(j, v, r, calls[j][v]);
-    for (int j = 0; j < JOBS; j++)
-        for (int v = 0; v < VERSIONS; v++) {
-            qsort(ns[j][v], BATCHES, sizeof ns[j][v][0], order);
-            median[j][v] = ns[j][v][BATCHES / 2];
-        }
+                for (int i = 0; i < records; i++)
+                    ns[i][j][v][k] = batch(j, v, &r[i], calls[i][j][v]);
+    for (int i = 0; i < records; i++)
+        for (int j = 0; j < JOBS; j++)
+            for (int v = 0; v < VERSIONS; v++) {
+                qsort(ns[i][j][v], BATCHES, sizeof ns[i][j][v][0], order);
+                median[i][j][v] = ns[i][j][v][BATCHES / 2];
+            }
 }
 
 /* Whether two answers can both be right: the same refusal; C and E at most 1 apart; U at most 0.5 % and 2 apart. */
@@ -269,7 +426,7 @@ static int values_agree(const struct record *r)
     for (int k = 0; k < VERSIONS; k++) {
         read_values(k, r, &v[k]);
         good = good && memcmp(&v[0], &v[k], sizeof v[k]) == 0;
-        write_values(k, &v[0], v[0].answer[1], v[0].answer[1], 78 + 8 * v[0].answer[1], &w[k]);
+        write_values(k, r->table, &v[0], v[0].answer[1], v[0].answer[1], 78 + 8 * v[0].answer[1], &w[k]);
         good = good && memcmp(&w[0], &w[k], sizeof w[k]) == 0;
     }
     if (v[0].answer[0] != 0)
@@ -280,53 +437,145 @@ static int values_agree(const struct record *r)
         && (!in_order || memcmp(w[0].buffer, r->bytes, r->length) == 0);
 }
 
-static int compare(struct record *r)
+/* The report of each version; whether they and the values agree. */
+static int judged_alike(const struct record *r, uint64_t reports[VERSIONS][8])
 {
-    uint64_t reports[VERSIONS][8];
     int good = values_agree(r);
-    read_values(0, r, &r->values);
-    printf("%-26s", r->name);
     for (int v = 0; v < VERSIONS; v++) {
-        VERSION[v].judge(r->bytes, r->length, reports[v], 8);
+        judge_by(v, r->table, r->bytes, r->length, reports[v]);
         good = good && agree(reports[0], reports[v]);
-        printf(" %-26s", line(reports[v]));
     }
-    printf(" %s\n", good ? "agree" : "DIFFER");
     return good;
 }
 
-/* Joint B's values with each place changed, with lists cut and with buffers of all lengths: how many writers differ. */
-static int compare_writers(const struct record *b)
+static void print_reports(const char *name, uint64_t reports[VERSIONS][8], int good)
+{
+    printf("%-26s", name);
+    for (int v = 0; v < VERSIONS; v++)
+        printf(" %-26s", line(reports[v]));
+    printf(" %s\n", good ? "agree" : "DIFFER");
+}
+
+static int compare(struct record *r)
+{
+    uint64_t reports[VERSIONS][8];
+    int good = judged_alike(r, reports);
+    read_values(0, r, &r->values);
+    print_reports(r->name, reports, good);
+    return good;
+}
+
+/* How much was compared: how many, the refusals seen, how many differ. */
+struct tally {
+    int done, bad;
+    uint32_t numbers;
+};
+
+static void count(struct tally *t, uint64_t number, int bad)
+{
+    t->done++;
+    t->bad += bad;
+    t->numbers |= UINT32_C(1) << (number & 31);
+}
+
+static int print_tally(const struct tally *t, const char *what)
+{
+    printf("%d %s; numbers", t->done, what);
+    for (unsigned k = 0; k < 32; k++)
+        if (t->numbers >> k & 1)
+            printf(" %u", k);
+    printf("; %d differ\n", t->bad);
+    return t->bad;
+}
+
+/* Joint B's values with each place changed, with lists cut and with buffers of all lengths, written by a table. */
+static void compare_writers(const struct record *b, const struct table *t, struct tally *tally)
 {
     static const int32_t other[] = {INT32_MIN, -1, 0, 1, 2, 3, 12, 31, 199, 257, 720, 4001, 65537, 100001, 1000001,
-                                    INT32_MAX};
+                                    INT32_MAX, 200, 255, 456};
     struct written w[VERSIONS];
-    int bad = 0, done = 0;
-    unsigned numbers = 0; /* the refusals seen */
     for (int at = 0; at < VALUES; at++)
         for (size_t k = 0; k < sizeof other / sizeof other[0]; k++)
             for (size_t cut = 0; cut < 3; cut++) {
                 struct values v = b->values;
+                int bad = 0;
                 v.fields[at] = other[k];
-                for (int n = 0; n < VERSIONS; n++)
-                    write_values(n, &v, 4, cut == 1 ? 3 : 4, cut == 2 ? 109 : 120, &w[n]);
-                for (int n = 1; n < VERSIONS; n++)
+                for (int n = 0; n < VERSIONS; n++) {
+                    write_values(n, t, &v, 4, cut == 1 ? 3 : 4, cut == 2 ? 109 : 120, &w[n]);
                     bad += memcmp(&w[0], &w[n], sizeof w[n]) != 0;
-                numbers |= 1u << (w[0].answer[0] & 31);
-                done++;
+                }
+                count(tally, w[0].answer[0], bad);
             }
-    for (size_t room = 0; room <= 120; room++, done++) {
-        for (int n = 0; n < VERSIONS; n++)
-            write_values(n, &b->values, 4, 4, room, &w[n]);
-        for (int n = 1; n < VERSIONS; n++)
+    for (size_t room = 0; room <= 120; room++) {
+        int bad = 0;
+        for (int n = 0; n < VERSIONS; n++) {
+            write_values(n, t, &b->values, 4, 4, room, &w[n]);
             bad += memcmp(&w[0], &w[n], sizeof w[n]) != 0;
+        }
+        count(tally, w[0].answer[0], bad);
     }
-    printf("%d sets of values written by each version; numbers", done);
-    for (unsigned k = 0; k < 32; k++)
-        if (numbers >> k & 1)
-            printf(" %u", k);
-    printf("; %d differ\n", bad);
-    return bad;
+}
+
+/* Each record as it is and with classes that a table may have, by this table. */
+static void compare_by(const struct table *t, const struct record *r, int records, struct tally *tally)
+{
+    static const uint8_t classes[][2] = {{0, 0}, {1, 200}, {200, 200}, {9, 255}, {255, 1}};
+    static struct record by;
+    uint64_t reports[VERSIONS][8];
+    for (int i = 0; i < records; i++)
+        for (size_t k = 0; k < sizeof classes / sizeof classes[0]; k++) {
+            by = r[i];
+            by.table = t;
+            if (k > 0)
+                set_classes(&by, classes[k][0], classes[k][1]);
+            int good = judged_alike(&by, reports);
+            if (!good) {
+                printf("by the table '%s':\n", t->name);
+                print_reports(by.name, reports, good);
+            }
+            count(tally, reports[0][1], !good);
+        }
+}
+
+/* What each version says of a table, and of joint B by it. */
+static void compare_loading(const struct table *t, const struct record *b, struct tally *tally)
+{
+    uint64_t reports[VERSIONS][8];
+    uint32_t loaded = VERSION[0].load(t->bytes, t->length);
+    int bad = 0;
+    for (int v = 0; v < VERSIONS; v++) {
+        bad += VERSION[v].load(t->bytes, t->length) != loaded;
+        judge_by(v, t, b->bytes, b->length, reports[v]);
+        bad += !agree(reports[0], reports[v]) || (loaded != 0 && reports[v][1] != loaded);
+    }
+    count(tally, loaded, bad != 0);
+}
+
+/* Tables of three entries, the first and the last at a limit: cut and with bytes more, whatever length they say; each
+ * byte changed to each value, as it is and with a byte more. */
+static void compare_loadings(const struct record *b, struct tally *tally)
+{
+    struct table base, t;
+    put_entry(start(&base, "three entries"), 1, 0, 290);
+    put_entry(&base, 9, 1, 580);
+    put_entry(&base, 200, 1, 1100);
+    put_front(&base);
+    memset(base.bytes + base.length, 0, sizeof base.bytes - base.length);
+    for (size_t length = 0; length <= base.length + 8; length++)
+        for (unsigned said = 0; said <= 24; said++) { /* the length that it says */
+            t = base;
+            t.length = length;
+            t.bytes[4] = (uint8_t)said;
+            compare_loading(&t, b, tally);
+        }
+    for (size_t at = 0; at < base.length; at++)
+        for (unsigned byte = 0; byte < 256; byte++)
+            for (size_t more = 0; more < 2; more++) {
+                t = base;
+                t.length += more;
+                t.bytes[at] = (uint8_t)byte;
+                compare_loading(&t, b, tally);
+            }
 }
 
 /* Stack: a thread on a stack of its own fills all of it below its frame with one byte, calls once, and looks for the
@@ -379,23 +628,34 @@ static size_t stack_of(enum job job, int version, const struct record *r)
     return depth;
 }
 
-/* The times of a job; how many are not reached.  Only judging has some to reach; the others are set against it. */
-static int print_times(enum job job, const struct record *joints, double ns[TIMED][JOBS][VERSIONS])
+/* The first columns of a table of times, without the line's end. */
+static void print_head(enum job job)
 {
-    int missed = 0;
     printf("%-26s", JOB[job]);
     for (int v = 0; v < VERSIONS; v++)
         printf(" %10s", VERSION[v].name);
     for (int v = 1; v < VERSIONS; v++)
         printf("   proved/%-5s", VERSION[v].name);
+}
+
+static void print_row(const char *name, const double *t)
+{
+    printf("%-26s", name);
+    for (int v = 0; v < VERSIONS; v++)
+        printf(" %10.0f", t[v]);
+    for (int v = 1; v < VERSIONS; v++)
+        printf("   %12.2f", t[0] / t[v]);
+}
+
+/* The times of a job; how many are not reached.  Only judging has some to reach; the others are set against it. */
+static int print_times(enum job job, const struct record *joints, double ns[TIMED][JOBS][VERSIONS])
+{
+    int missed = 0;
+    print_head(job);
     printf(job == JUDGE ? "  to reach\n" : "  %s/judge, proved\n", JOB[job]);
     for (int k = 0; k < TIMED; k++) {
         const double *t = ns[k][job];
-        printf("%-26s", joints[k].name);
-        for (int v = 0; v < VERSIONS; v++)
-            printf(" %10.0f", t[v]);
-        for (int v = 1; v < VERSIONS; v++)
-            printf("   %12.2f", t[0] / t[v]);
+        print_row(joints[k].name, t);
         if (job != JUDGE) {
             printf("  %.4f\n", t[0] / ns[k][JUDGE][0]);
             continue;
@@ -406,11 +666,22 @@ static int print_times(enum job job, const struct record *joints, double ns[TIME
     return missed;
 }
 
+/* The times of a job by three tables, set against the printed one. */
+static void print_tabled(enum job job, const struct record *tabled, double ns[TABLED][JOBS][VERSIONS])
+{
+    print_head(job);
+    printf("  table/printed, proved\n");
+    for (int k = 0; k < TABLED; k++) {
+        print_row(tabled[k].name, ns[k][job]);
+        printf("  %.4f\n", ns[k][job][0] / ns[0][job][0]);
+    }
+}
+
 /* The deepest call of a job of the proved version. */
-static size_t print_stack(enum job job, const struct record *joints)
+static size_t print_stack(enum job job, const struct record *joints, int records)
 {
     size_t deepest = 0;
-    for (int k = 0; k < JOINTS; k++) {
+    for (int k = 0; k < records; k++) {
         printf("%-6s %-26s", JOB[job], joints[k].name);
         for (int v = 0; v < VERSIONS; v++) {
             size_t depth = stack_of(job, v, &joints[k]);
@@ -423,45 +694,120 @@ static size_t print_stack(enum job job, const struct record *joints)
     return deepest;
 }
 
+/* A file's bytes and the last part of its name. */
+static const char *read_file(const char *path, uint8_t *bytes, size_t room, size_t *length)
+{
+    const char *slash = strrchr(path, '/');
+    FILE *f = fopen(path, "rb");
+    if (f == NULL) {
+        perror(path);
+        exit(2);
+    }
+    *length = fread(bytes, 1, room, f);
+    fclose(f);
+    return slash ? slash + 1 : path;
+}
+
+static void too_many(void)
+{
+    fprintf(stderr, "too many files\n");
+    exit(2);
+}
+
+/* The records in the files; the tables in them go behind the others. */
+static int read_files(int argc, char **argv, struct record *r, int room, int *many_tables)
+{
+    int records = 0;
+    for (int i = 1; i < argc; i++) {
+        const char *dot = strrchr(argv[i], '.');
+        if (dot != NULL && strcmp(dot, ".tab") == 0) {
+            if (*many_tables == sizeof tables / sizeof tables[0])
+                too_many();
+            struct table *t = &tables[(*many_tables)++];
+            t->name = read_file(argv[i], t->bytes, sizeof t->bytes, &t->length);
+        } else {
+            if (records == room)
+                too_many();
+            r[records].name = read_file(argv[i], r[records].bytes, sizeof r[records].bytes, &r[records].length);
+            records++;
+        }
+    }
+    return records;
+}
+
+/* Joint B by each table, in a line; then all records and values by each, and tables damaged in many ways. */
+static int compare_tables(int many_tables, const struct record *r, int records, const struct record *b)
+{
+    static struct record across;
+    struct tally records_by = {0, 0, 0}, values_by = {0, 0, 0}, loadings = {0, 0, 0};
+    int bad = 0;
+    for (int k = 0; k < TABLES; k++) {
+        write_across(&across, &tables[k], class_by(k));
+        bad += !compare(&across);
+    }
+    across.length--; /* a record that would be refused by 4 */
+    across.name = "14 before the record's 4";
+    bad += !compare(&across);
+    for (int k = 0; k < many_tables; k++) {
+        compare_by(&tables[k], r, records, &records_by);
+        compare_writers(b, &tables[k], &values_by);
+        compare_loading(&tables[k], b, &loadings);
+    }
+    compare_loadings(b, &loadings);
+    bad += print_tally(&records_by, "records judged, read and written again by tables");
+    bad += print_tally(&values_by, "sets of values written by tables");
+    return bad + print_tally(&loadings, "tables loaded and joint B judged by each");
+}
+
+#define FILES 100
+
 int main(int argc, char **argv)
 {
-    static struct record joints[JOINTS], other;
-    static double ns[TIMED][JOBS][VERSIONS];
-    int bad = 0, missed = 0;
+    static struct record records[JOINTS + FILES], tabled[TABLED];
+    static double ns[TIMED][JOBS][VERSIONS], ns_by[TABLED][JOBS][VERSIONS];
+    struct record *const joints = records;
+    struct tally written = {0, 0, 0};
+    int bad = 0, missed = 0, many_tables = TABLES;
     size_t deepest = 0;
     write_records(joints);
+    write_tables();
+    int many = JOINTS + read_files(argc, argv, records + JOINTS, FILES, &many_tables);
 
     printf("Answers (U C E, or a refusal's number and place); values read and bytes written agree too\n%-26s", "");
     for (int v = 0; v < VERSIONS; v++)
         printf(" %-26s", VERSION[v].name);
     printf("\n");
-    for (int k = 0; k < JOINTS; k++)
-        bad += !compare(&joints[k]);
-    for (int i = 1; i < argc; i++) {
-        FILE *f = fopen(argv[i], "rb");
-        const char *slash = strrchr(argv[i], '/');
-        if (f == NULL) {
-            perror(argv[i]);
-            return 2;
-        }
-        other.name = slash ? slash + 1 : argv[i];
-        other.length = fread(other.bytes, 1, sizeof other.bytes, f);
-        fclose(f);
-        bad += !compare(&other);
-    }
+    for (int k = 0; k < many; k++)
+        bad += !compare(&records[k]);
+    compare_writers(&joints[0], NULL, &written);
+    bad += print_tally(&written, "sets of values written by each version");
 
-    bad += compare_writers(&joints[0]);
+    printf("\nAnswers by %d tables: joint B in wide outlines, force (0, 20000), then all records and values\n",
+           many_tables);
+    bad += compare_tables(many_tables, records, many, &joints[0]);
+    write_tabled(tabled, &joints[0]);
+    for (int k = 0; k < TABLED; k++)
+        read_values(0, &tabled[k], &tabled[k].values);
 
     printf("\nTime: ns per call, median of %d batches of about %.0f ms, the versions and jobs taking turns\n", BATCHES,
            BATCH_NS / 1e6);
     for (int k = 0; k < TIMED; k++)
-        time_record(&joints[k], ns[k]);
+        time_records(&joints[k], 1, &ns[k]);
     for (int j = 0; j < JOBS; j++)
         missed += print_times(j, joints, ns);
 
+    printf("\nTime of joint B by three tables, which take turns too\n");
+    time_records(tabled, TABLED, ns_by);
+    for (int j = 0; j < JOBS; j++)
+        print_tabled(j, tabled, ns_by);
+
     printf("\nStack: deepest byte that one call changed, in bytes below the caller's frame, on a painted stack\n");
     for (int j = 0; j < JOBS; j++) {
-        size_t depth = print_stack(j, joints);
+        size_t depth = print_stack(j, joints, JOINTS);
+        deepest = depth > deepest ? depth : deepest;
+    }
+    for (int j = 0; j < JOBS; j++) {
+        size_t depth = print_stack(j, tabled, TABLED);
         deepest = depth > deepest ? depth : deepest;
     }
     missed += deepest >= 65536;

@@ -1,4 +1,4 @@
-/* The three versions of one job, with the same entries: those of include/negwishal.h. */
+/* The three versions of one job, with the same entries: those of include/negwishal.h, without and with a table. */
 #ifndef BENCH_H
 #define BENCH_H
 
@@ -13,17 +13,40 @@ typedef uint32_t read_fn(const uint8_t *record, size_t record_len, int32_t *fiel
                          size_t x_len, int32_t *y, size_t y_len, int32_t *marks, size_t marks_len, uint64_t *answer,
                          size_t answer_len);
 
+typedef uint32_t load_fn(const uint8_t *table, size_t table_len);
+typedef uint32_t judge_with_fn(const uint8_t *table, size_t table_len, const uint8_t *record, size_t record_len,
+                               uint64_t *report, size_t report_len);
+typedef uint32_t write_with_fn(const uint8_t *table, size_t table_len, const int32_t *fields, size_t fields_len,
+                               const int32_t *x, size_t x_len, const int32_t *y, size_t y_len, const int32_t *marks,
+                               size_t marks_len, uint8_t *buffer, size_t buffer_len, uint64_t *answer,
+                               size_t answer_len);
+typedef uint32_t read_with_fn(const uint8_t *table, size_t table_len, const uint8_t *record, size_t record_len,
+                              int32_t *fields, size_t fields_len, int32_t *x, size_t x_len, int32_t *y, size_t y_len,
+                              int32_t *marks, size_t marks_len, uint64_t *answer, size_t answer_len);
+
 /* the proved library */
 judge_fn negwishal_judge;
 write_fn negwishal_write;
 read_fn negwishal_read;
+load_fn negwishal_load;
+judge_with_fn negwishal_judge_with;
+write_with_fn negwishal_write_with;
+read_with_fn negwishal_read_with;
 /* bench/float.rs */
 judge_fn float_judge;
 write_fn float_write;
 read_fn float_read;
+load_fn float_load;
+judge_with_fn float_judge_with;
+write_with_fn float_write_with;
+read_with_fn float_read_with;
 /* bench/exact.c */
 judge_fn exact_judge;
 write_fn exact_write;
 read_fn exact_read;
+load_fn exact_load;
+judge_with_fn exact_judge_with;
+write_with_fn exact_write_with;
+read_with_fn exact_read_with;
 
 #endif

@@ -9,13 +9,18 @@
 
 #define SOFTWOOD 1350 /* k90 without its 15 d, in thousandths */
 #define HARDWOOD 900
-static const struct {
-    unsigned k90, density;
-} WOOD[] = {
-    {SOFTWOOD, 350}, {SOFTWOOD, 380}, {SOFTWOOD, 385}, {SOFTWOOD, 365}, {SOFTWOOD, 425}, {SOFTWOOD, 390},
-    {SOFTWOOD, 440}, {SOFTWOOD, 400}, {HARDWOOD, 530}, {HARDWOOD, 550}, {HARDWOOD, 900},
+enum { CODES = 256 };
+/* Wood by code; density 0 where the table has no such class. */
+struct table {
+    struct {
+        uint16_t k90, density;
+    } of[CODES];
 };
-enum { CLASSES = sizeof WOOD / sizeof WOOD[0] };
+static const struct table PRINTED = {{
+    [1] = {SOFTWOOD, 350}, [2] = {SOFTWOOD, 380}, [3] = {SOFTWOOD, 385}, [4] = {SOFTWOOD, 365},
+    [5] = {SOFTWOOD, 425}, [6] = {SOFTWOOD, 390}, [7] = {SOFTWOOD, 440}, [8] = {SOFTWOOD, 400},
+    [9] = {HARDWOOD, 530}, [10] = {HARDWOOD, 550}, [11] = {HARDWOOD, 900},
+}};
 static const unsigned STEEL[3] = {360, 430, 510};
 static const unsigned KMOD[3][5] = {{60, 70, 80, 90, 110}, {60, 70, 80, 90, 110}, {50, 55, 65, 70, 90}};
 
@@ -29,6 +34,7 @@ struct member {
 };
 
 struct joint {
+    const struct table *table; /* that its classes are of */
     unsigned planes, d, steel, n, service, duration;
     struct member members[2];
     int32_t at[2][64]; /* x and y */
@@ -42,6 +48,24 @@ static int32_t i32_at(const uint8_t *b)
     return (int32_t)(b[0] | (uint32_t)b[1] << 8 | (uint32_t)b[2] << 16 | (uint32_t)b[3] << 24);
 }
 
+/* Refusals 14 and 15 of a firm's table, or 0. */
+static unsigned load(const uint8_t *b, size_t length, struct table *t)
+{
+    unsigned before = 0;
+    if (length < 10 || length % 4 != 2 || u16_at(b) != 1 || u16_at(b + 2) != 6 || 6u + u16_at(b + 4) != length)
+        return 14;
+    memset(t, 0, sizeof *t);
+    for (size_t i = 6; i < length; i += 4) {
+        unsigned code = b[i], kind = b[i + 1], density = u16_at(b + i + 2);
+        if (code <= before || kind > 1 || density < 290 || density > 1100)
+            return 15;
+        t->of[code].k90 = kind == 0 ? SOFTWOOD : HARDWOOD;
+        t->of[code].density = (uint16_t)density;
+        before = code;
+    }
+    return 0;
+}
+
 static int within(int32_t z, int32_t limit) { return -limit <= z && z <= limit; }
 
 /* Refusals 7 to 9, or 0; the number of dowels is tested before. */
@@ -51,8 +75,8 @@ static unsigned value_fault(const struct joint *j)
             && 1 <= j->service && j->service <= 3 && 1 <= j->duration && j->duration <= 5;
     for (int k = 0; k < 2; k++) {
         const struct member *m = &j->members[k];
-        good = good && 1 <= m->class && m->class <= CLASSES && m->grain <= 1 && 200 <= m->thickness
-            && m->thickness <= 4000;
+        good = good && m->class < CODES && j->table->of[m->class].density != 0 && m->grain <= 1
+            && 200 <= m->thickness && m->thickness <= 4000;
         for (int a = 0; a < 2; a++)
             good = good && within(m->low[a], 100000) && within(m->high[a], 100000);
     }
@@ -72,7 +96,7 @@ static unsigned value_fault(const struct joint *j)
     return 0;
 }
 
-/* Refusals 1 to 9, or 0. */
+/* Refusals 1 to 9, or 0; the joint has its table. */
 static unsigned read_joint(const uint8_t *b, size_t length, struct joint *j)
 {
     const uint8_t *part[4] = {0};
@@ -193,9 +217,9 @@ static void bearing(const struct joint *j, const struct member *m, mpz_t num, mp
 {
     uint64_t whole = total(j), cos2 = square(j->force[m->grain]);
     mpz_set_ui(num, whole);
-    mpz_mul_ui(num, num, WOOD[m->class - 1].density);
+    mpz_mul_ui(num, num, j->table->of[m->class].density);
     mpz_set_ui(den, whole - cos2);
-    mpz_mul_ui(den, den, WOOD[m->class - 1].k90 + 15 * j->d);
+    mpz_mul_ui(den, den, j->table->of[m->class].k90 + 15 * j->d);
     mpz_t c;
     mpz_init_set_ui(c, cos2);
     mpz_addmul_ui(den, c, 1000);
@@ -405,19 +429,43 @@ static void figures(const struct joint *j, uint64_t *report)
     mpz_clears(r, e[0], e[1], u, a, b, NULL);
 }
 
-uint32_t exact_judge(const uint8_t *record, size_t record_len, uint64_t *report, size_t report_len)
+/* number: by what the table was refused, or 0. */
+static void judge(unsigned number, const struct table *table, const uint8_t *record, size_t record_len,
+                  uint64_t *report)
 {
     struct joint j;
-    if (report_len < 8)
-        return 1;
+    j.table = table;
     memset(report, 0, 8 * sizeof report[0]);
-    report[1] = read_joint(record, record_len, &j);
+    report[1] = number ? number : read_joint(record, record_len, &j);
     for (int k = 0; k < 2 && report[1] == 0; k++) {
         report[1] = spacing(&j, k, report + 3);
         report[2] = report[1] ? (uint64_t)k + 1 : 0;
     }
     if (report[1] == 0)
         figures(&j, report);
+}
+
+uint32_t exact_judge(const uint8_t *record, size_t record_len, uint64_t *report, size_t report_len)
+{
+    if (report_len < 8)
+        return 1;
+    judge(0, &PRINTED, record, record_len, report);
+    return 0;
+}
+
+uint32_t exact_load(const uint8_t *table, size_t table_len)
+{
+    struct table own;
+    return load(table, table_len, &own);
+}
+
+uint32_t exact_judge_with(const uint8_t *table, size_t table_len, const uint8_t *record, size_t record_len,
+                          uint64_t *report, size_t report_len)
+{
+    struct table own;
+    if (report_len < 8)
+        return 1;
+    judge(load(table, table_len, &own), &own, record, record_len, report);
     return 0;
 }
 
@@ -425,7 +473,7 @@ uint32_t exact_judge(const uint8_t *record, size_t record_len, uint64_t *report,
 
 enum { VALUES = 27, MEMBER_VALUES = 9, VERSION = 1 };
 
-/* Refusals 2 and 7 to 9, or 0.  A number below 0 is far above its limit as an unsigned one. */
+/* Refusals 2 and 7 to 9, or 0; the joint has its table.  A number below 0 is far above its limit as an unsigned one. */
 static unsigned take_joint(const int32_t *fields, const int32_t *const at[2], size_t x_len, size_t y_len,
                            struct joint *j)
 {
@@ -490,40 +538,59 @@ static void write_joint(const struct joint *j, uint8_t *b)
     put(put(b, (uint32_t)j->force[0], 4), (uint32_t)j->force[1], 4);
 }
 
-uint32_t exact_write(const int32_t *fields, size_t fields_len, const int32_t *x, size_t x_len, const int32_t *y,
-                     size_t y_len, const int32_t *marks, size_t marks_len, uint8_t *buffer, size_t buffer_len,
-                     uint64_t *answer, size_t answer_len)
+/* number: by what the table was refused, or 0. */
+static void write_values(unsigned number, const struct table *table, const int32_t *fields, const int32_t *const at[2],
+                         size_t x_len, size_t y_len, uint8_t *buffer, size_t buffer_len, uint64_t *answer)
 {
     struct joint j;
-    const int32_t *const at[2] = {x, y};
-    (void)marks; /* version 1 has none */
-    (void)marks_len;
-    if (fields_len < VALUES || answer_len < 2)
-        return 1;
-    answer[0] = take_joint(fields, at, x_len, y_len, &j);
+    j.table = table;
+    answer[0] = number ? number : take_joint(fields, at, x_len, y_len, &j);
     if (answer[0] == 0 && buffer_len < 78 + 8 * x_len)
         answer[0] = 13;
     answer[1] = answer[0] == 0 ? 78 + 8 * x_len : 0;
     if (answer[0] == 0)
         write_joint(&j, buffer);
+}
+
+uint32_t exact_write(const int32_t *fields, size_t fields_len, const int32_t *x, size_t x_len, const int32_t *y,
+                     size_t y_len, const int32_t *marks, size_t marks_len, uint8_t *buffer, size_t buffer_len,
+                     uint64_t *answer, size_t answer_len)
+{
+    (void)marks; /* version 1 has none */
+    (void)marks_len;
+    if (fields_len < VALUES || answer_len < 2)
+        return 1;
+    write_values(0, &PRINTED, fields, (const int32_t *const[2]){x, y}, x_len, y_len, buffer, buffer_len, answer);
     return 0;
 }
 
-uint32_t exact_read(const uint8_t *record, size_t record_len, int32_t *fields, size_t fields_len, int32_t *x,
-                    size_t x_len, int32_t *y, size_t y_len, int32_t *marks, size_t marks_len, uint64_t *answer,
-                    size_t answer_len)
+uint32_t exact_write_with(const uint8_t *table, size_t table_len, const int32_t *fields, size_t fields_len,
+                          const int32_t *x, size_t x_len, const int32_t *y, size_t y_len, const int32_t *marks,
+                          size_t marks_len, uint8_t *buffer, size_t buffer_len, uint64_t *answer, size_t answer_len)
+{
+    struct table own;
+    (void)marks;
+    (void)marks_len;
+    if (fields_len < VALUES || answer_len < 2)
+        return 1;
+    write_values(load(table, table_len, &own), &own, fields, (const int32_t *const[2]){x, y}, x_len, y_len, buffer,
+                 buffer_len, answer);
+    return 0;
+}
+
+/* number: by what the table was refused, or 0.  to: x, y and marks. */
+static void read_values(unsigned number, const struct table *table, const uint8_t *record, size_t record_len,
+                        int32_t *fields, int32_t *const to[3], uint64_t *answer)
 {
     struct joint j;
-    int32_t *const to[3] = {x, y, marks};
-    if (fields_len < VALUES || x_len < 64 || y_len < 64 || marks_len < 64 || answer_len < 2)
-        return 1;
+    j.table = table;
     memset(fields, 0, VALUES * sizeof fields[0]);
     for (int a = 0; a < 3; a++)
         memset(to[a], 0, 64 * sizeof to[a][0]);
-    answer[0] = read_joint(record, record_len, &j);
+    answer[0] = number ? number : read_joint(record, record_len, &j);
     answer[1] = answer[0] == 0 ? j.n : 0;
     if (answer[0] != 0)
-        return 0;
+        return;
     fields[0] = VERSION;
     fields[1] = (int32_t)j.planes;
     for (int k = 0; k < 2; k++) {
@@ -540,5 +607,31 @@ uint32_t exact_read(const uint8_t *record, size_t record_len, int32_t *fields, s
         fields[25 + a] = j.force[a];
         memcpy(to[a], j.at[a], j.n * sizeof to[a][0]);
     }
+}
+
+static int read_short(size_t fields_len, size_t x_len, size_t y_len, size_t marks_len, size_t answer_len)
+{
+    return fields_len < VALUES || x_len < 64 || y_len < 64 || marks_len < 64 || answer_len < 2;
+}
+
+uint32_t exact_read(const uint8_t *record, size_t record_len, int32_t *fields, size_t fields_len, int32_t *x,
+                    size_t x_len, int32_t *y, size_t y_len, int32_t *marks, size_t marks_len, uint64_t *answer,
+                    size_t answer_len)
+{
+    if (read_short(fields_len, x_len, y_len, marks_len, answer_len))
+        return 1;
+    read_values(0, &PRINTED, record, record_len, fields, (int32_t *const[3]){x, y, marks}, answer);
+    return 0;
+}
+
+uint32_t exact_read_with(const uint8_t *table, size_t table_len, const uint8_t *record, size_t record_len,
+                         int32_t *fields, size_t fields_len, int32_t *x, size_t x_len, int32_t *y, size_t y_len,
+                         int32_t *marks, size_t marks_len, uint64_t *answer, size_t answer_len)
+{
+    struct table own;
+    if (read_short(fields_len, x_len, y_len, marks_len, answer_len))
+        return 1;
+    read_values(load(table, table_len, &own), &own, record, record_len, fields, (int32_t *const[3]){x, y, marks},
+                answer);
     return 0;
 }

@@ -23,9 +23,29 @@ const KMOD: [[f64; 5]; 3] = [
     [0.50, 0.55, 0.65, 0.70, 0.90],
 ];
 
+// By which table classes are read: the printed one, or a firm's, as its entries of 4 bytes.
+#[derive(Clone, Copy)]
+enum Table<'a> {
+    Printed,
+    Own(&'a [u8]),
+}
+
+impl Table<'_> {
+    fn wood(self, class: u8) -> Option<(f64, f64)> {
+        match self {
+            Table::Printed => WOOD.get((class as usize).wrapping_sub(1)).copied(),
+            Table::Own(entries) => {
+                let e = entries.chunks_exact(4).find(|e| e[0] == class)?;
+                Some((if e[1] == 0 { 1.35 } else { 0.90 }, u16_at(e, 2) as f64))
+            }
+        }
+    }
+}
+
 #[derive(Clone, Copy)]
 struct Member {
     class: u8,
+    wood: Option<(f64, f64)>,
     grain: u8,
     thickness: f64,
     x0: f64,
@@ -61,6 +81,28 @@ fn i32_at(b: &[u8], i: usize) -> f64 {
 
 fn refuse<T>(number: u64) -> Result<T, Refusal> {
     Err([number, 0, 0, 0])
+}
+
+// Refusals 14 and 15. No table handed in: the printed one.
+fn load(own: Option<&[u8]>) -> Result<Table<'_>, Refusal> {
+    let Some(b) = own else {
+        return Ok(Table::Printed);
+    };
+    if b.len() < 6 || [u16_at(b, 0), u16_at(b, 2), u16_at(b, 4)] != [1, 6, b.len() - 6] {
+        return refuse(14);
+    }
+    let entries = &b[6..];
+    if entries.is_empty() || entries.len() % 4 != 0 {
+        return refuse(14);
+    }
+    let mut before = 0;
+    for e in entries.chunks_exact(4) {
+        if e[0] <= before || e[1] > 1 || !(290..=1100).contains(&u16_at(e, 2)) {
+            return refuse(15);
+        }
+        before = e[0];
+    }
+    Ok(Table::Own(entries))
 }
 
 // Refusals 1 to 6; where each kind's part starts.
@@ -105,9 +147,10 @@ fn layout(b: &[u8]) -> Result<[usize; 4], Refusal> {
     Ok(at)
 }
 
-fn member(b: &[u8], i: usize) -> Member {
+fn member(b: &[u8], i: usize, table: Table) -> Member {
     Member {
         class: b[i],
+        wood: table.wood(b[i]),
         grain: b[i + 1],
         thickness: u16_at(b, i + 2) as f64,
         x0: i32_at(b, i + 4),
@@ -122,7 +165,7 @@ fn value_fault(j: &Joint) -> Result<(), Refusal> {
     let coordinate = |z: f64| z.abs() <= 100_000.;
     let fields = (1..=2).contains(&j.planes)
         && j.members.iter().all(|m| {
-            (1..=WOOD.len()).contains(&(m.class as usize))
+            m.wood.is_some()
                 && m.grain <= 1
                 && (200. ..=4000.).contains(&m.thickness)
                 && [m.x0, m.y0, m.x1, m.y1].into_iter().all(coordinate)
@@ -147,7 +190,7 @@ fn value_fault(j: &Joint) -> Result<(), Refusal> {
 }
 
 // Refusals 1 to 9.
-fn read(b: &[u8]) -> Result<Joint, Refusal> {
+fn read(b: &[u8], table: Table) -> Result<Joint, Refusal> {
     let at = layout(b)?;
     let n = b[at[2] + 1] as usize;
     if !(1..=64).contains(&n) {
@@ -155,7 +198,7 @@ fn read(b: &[u8]) -> Result<Joint, Refusal> {
     }
     let mut j = Joint {
         planes: b[at[0] + 1],
-        members: [member(b, at[0] + 2), member(b, at[0] + 22)],
+        members: [member(b, at[0] + 2, table), member(b, at[0] + 22, table)],
         d: b[at[1] + 1] as f64,
         steel: b[at[1] + 2],
         n,
@@ -217,7 +260,7 @@ fn cos2(m: &Member, j: &Joint) -> f64 {
 fn capacity(j: &Joint) -> f64 {
     let bearing = |m: &Member| {
         let c2 = cos2(m, j);
-        let (base, density) = WOOD[m.class as usize - 1];
+        let (base, density) = m.wood.expect("7 was tested");
         let k90 = base + 0.015 * j.d;
         0.082 * (1. - 0.01 * j.d) * density / (k90 * (1. - c2) + c2)
     };
@@ -264,9 +307,9 @@ fn share(j: &Joint, m: &Member) -> f64 {
     least
 }
 
-fn judge(b: &[u8]) -> [u64; 8] {
+fn judge(own: Option<&[u8]>, b: &[u8]) -> [u64; 8] {
     let refused = |r: Refusal| [0, r[0], r[1], r[2], r[3], 0, 0, 0];
-    let j = match read(b) {
+    let j = match load(own).and_then(|table| read(b, table)) {
         Ok(j) => j,
         Err(r) => return refused(r),
     };
@@ -292,17 +335,53 @@ fn judge(b: &[u8]) -> [u64; 8] {
     [verdict, 0, 0, 0, 0, u, r as u64, (10_000. * share1.min(share2)) as u64]
 }
 
-/// # Safety
-/// The two slices are as include/negwishal.h says for negwishal_judge.
-#[no_mangle]
-pub unsafe extern "C" fn float_judge(record: *const u8, record_len: usize, report: *mut u64, report_len: usize) -> u32 {
+// The slices as C hands them over; `own` is none where the printed table is meant.
+unsafe fn judge_lent(
+    own: Option<&[u8]>,
+    record: *const u8,
+    record_len: usize,
+    report: *mut u64,
+    report_len: usize,
+) -> u32 {
     if report_len < 8 {
         return 1;
     }
     let record = unsafe { std::slice::from_raw_parts(record, record_len) };
     let report = unsafe { std::slice::from_raw_parts_mut(report, report_len) };
-    report[..8].copy_from_slice(&judge(record));
+    report[..8].copy_from_slice(&judge(own, record));
     0
+}
+
+/// # Safety
+/// The two slices are as include/negwishal.h says for negwishal_judge.
+#[no_mangle]
+pub unsafe extern "C" fn float_judge(record: *const u8, record_len: usize, report: *mut u64, report_len: usize) -> u32 {
+    unsafe { judge_lent(None, record, record_len, report, report_len) }
+}
+
+/// # Safety
+/// The slice is as include/negwishal.h says for negwishal_load.
+#[no_mangle]
+pub unsafe extern "C" fn float_load(table: *const u8, table_len: usize) -> u32 {
+    let table = unsafe { std::slice::from_raw_parts(table, table_len) };
+    load(Some(table)).err().map_or(0, |r| r[0] as u32)
+}
+
+/// # Safety
+/// The slices are as include/negwishal.h says for negwishal_judge_with.
+#[no_mangle]
+pub unsafe extern "C" fn float_judge_with(
+    table: *const u8,
+    table_len: usize,
+    record: *const u8,
+    record_len: usize,
+    report: *mut u64,
+    report_len: usize,
+) -> u32 {
+    unsafe {
+        let table = std::slice::from_raw_parts(table, table_len);
+        judge_lent(Some(table), record, record_len, report, report_len)
+    }
 }
 
 // ---- values: 27 numbers in the header's order, x and y
@@ -316,9 +395,10 @@ fn code(z: i32) -> u8 {
     u8::try_from(z).unwrap_or(0)
 }
 
-fn member_from(f: &[i32]) -> Member {
+fn member_from(f: &[i32], table: Table) -> Member {
     Member {
         class: code(f[0]),
+        wood: table.wood(code(f[0])),
         grain: u8::try_from(f[1]).unwrap_or(u8::MAX),
         thickness: f[4] as f64,
         x0: f[5] as f64,
@@ -329,7 +409,7 @@ fn member_from(f: &[i32]) -> Member {
 }
 
 // Refusals 2 and 7 to 9.
-fn take(fields: &[i32], x: &[i32], y: &[i32]) -> Result<Joint, Refusal> {
+fn take(fields: &[i32], x: &[i32], y: &[i32], table: Table) -> Result<Joint, Refusal> {
     if fields[0] != VERSION as i32 {
         return refuse(2);
     }
@@ -339,7 +419,7 @@ fn take(fields: &[i32], x: &[i32], y: &[i32]) -> Result<Joint, Refusal> {
     }
     let mut j = Joint {
         planes: code(fields[1]),
-        members: [member_from(&fields[2..11]), member_from(&fields[11..20])],
+        members: [member_from(&fields[2..11], table), member_from(&fields[11..20], table)],
         d: fields[20] as f64,
         steel: code(fields[21]),
         n,
@@ -406,6 +486,43 @@ fn write_joint(j: &Joint, buffer: &mut [u8]) {
     p.i32(j.fy);
 }
 
+#[allow(clippy::too_many_arguments)]
+unsafe fn write_lent(
+    own: Option<&[u8]>,
+    fields: *const i32,
+    fields_len: usize,
+    x: *const i32,
+    x_len: usize,
+    y: *const i32,
+    y_len: usize,
+    buffer: *mut u8,
+    buffer_len: usize,
+    answer: *mut u64,
+    answer_len: usize,
+) -> u32 {
+    if fields_len < VALUES || answer_len < 2 {
+        return 1;
+    }
+    let fields = unsafe { std::slice::from_raw_parts(fields, fields_len) };
+    let (x, y) = unsafe { (std::slice::from_raw_parts(x, x_len), std::slice::from_raw_parts(y, y_len)) };
+    let buffer = unsafe { std::slice::from_raw_parts_mut(buffer, buffer_len) };
+    let answer = unsafe { std::slice::from_raw_parts_mut(answer, answer_len) };
+    let length = 78 + 8 * x_len;
+    let made = match load(own).and_then(|table| take(fields, x, y, table)) {
+        Err(r) => Err(r[0]),
+        Ok(_) if buffer_len < length => Err(13),
+        Ok(j) => Ok(j),
+    };
+    match made {
+        Ok(j) => {
+            write_joint(&j, buffer);
+            answer[..2].copy_from_slice(&[0, length as u64]);
+        }
+        Err(number) => answer[..2].copy_from_slice(&[number, 0]),
+    }
+    0
+}
+
 /// # Safety
 /// The slices are as include/negwishal.h says for negwishal_write.
 #[no_mangle]
@@ -423,33 +540,37 @@ pub unsafe extern "C" fn float_write(
     answer: *mut u64,
     answer_len: usize,
 ) -> u32 {
-    if fields_len < VALUES || answer_len < 2 {
-        return 1;
-    }
-    let fields = unsafe { std::slice::from_raw_parts(fields, fields_len) };
-    let (x, y) = unsafe { (std::slice::from_raw_parts(x, x_len), std::slice::from_raw_parts(y, y_len)) };
-    let buffer = unsafe { std::slice::from_raw_parts_mut(buffer, buffer_len) };
-    let answer = unsafe { std::slice::from_raw_parts_mut(answer, answer_len) };
-    let length = 78 + 8 * x_len;
-    let made = match take(fields, x, y) {
-        Err(r) => Err(r[0]),
-        Ok(_) if buffer_len < length => Err(13),
-        Ok(j) => Ok(j),
-    };
-    match made {
-        Ok(j) => {
-            write_joint(&j, buffer);
-            answer[..2].copy_from_slice(&[0, length as u64]);
-        }
-        Err(number) => answer[..2].copy_from_slice(&[number, 0]),
-    }
-    0
+    unsafe { write_lent(None, fields, fields_len, x, x_len, y, y_len, buffer, buffer_len, answer, answer_len) }
 }
 
 /// # Safety
-/// The slices are as include/negwishal.h says for negwishal_read.
+/// The slices are as include/negwishal.h says for negwishal_write_with.
 #[no_mangle]
-pub unsafe extern "C" fn float_read(
+pub unsafe extern "C" fn float_write_with(
+    table: *const u8,
+    table_len: usize,
+    fields: *const i32,
+    fields_len: usize,
+    x: *const i32,
+    x_len: usize,
+    y: *const i32,
+    y_len: usize,
+    _marks: *const i32,
+    _marks_len: usize,
+    buffer: *mut u8,
+    buffer_len: usize,
+    answer: *mut u64,
+    answer_len: usize,
+) -> u32 {
+    unsafe {
+        let table = std::slice::from_raw_parts(table, table_len);
+        write_lent(Some(table), fields, fields_len, x, x_len, y, y_len, buffer, buffer_len, answer, answer_len)
+    }
+}
+
+#[allow(clippy::too_many_arguments)]
+unsafe fn read_lent(
+    own: Option<&[u8]>,
     record: *const u8,
     record_len: usize,
     fields: *mut i32,
@@ -475,7 +596,7 @@ pub unsafe extern "C" fn float_read(
     fields.fill(0);
     x.fill(0);
     y.fill(0);
-    let j = match read(record) {
+    let j = match load(own).and_then(|table| read(record, table)) {
         Ok(j) => j,
         Err(r) => {
             answer.copy_from_slice(&[r[0], 0]);
@@ -497,4 +618,55 @@ pub unsafe extern "C" fn float_read(
     }
     answer.copy_from_slice(&[0, j.n as u64]);
     0
+}
+
+/// # Safety
+/// The slices are as include/negwishal.h says for negwishal_read.
+#[no_mangle]
+pub unsafe extern "C" fn float_read(
+    record: *const u8,
+    record_len: usize,
+    fields: *mut i32,
+    fields_len: usize,
+    x: *mut i32,
+    x_len: usize,
+    y: *mut i32,
+    y_len: usize,
+    marks: *mut i32,
+    marks_len: usize,
+    answer: *mut u64,
+    answer_len: usize,
+) -> u32 {
+    unsafe {
+        read_lent(
+            None, record, record_len, fields, fields_len, x, x_len, y, y_len, marks, marks_len, answer, answer_len,
+        )
+    }
+}
+
+/// # Safety
+/// The slices are as include/negwishal.h says for negwishal_read_with.
+#[no_mangle]
+pub unsafe extern "C" fn float_read_with(
+    table: *const u8,
+    table_len: usize,
+    record: *const u8,
+    record_len: usize,
+    fields: *mut i32,
+    fields_len: usize,
+    x: *mut i32,
+    x_len: usize,
+    y: *mut i32,
+    y_len: usize,
+    marks: *mut i32,
+    marks_len: usize,
+    answer: *mut u64,
+    answer_len: usize,
+) -> u32 {
+    unsafe {
+        let own = Some(std::slice::from_raw_parts(table, table_len));
+        read_lent(
+            own, record, record_len, fields, fields_len, x, x_len, y, y_len, marks, marks_len, answer, answer_len,
+        )
+    }
 }

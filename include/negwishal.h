@@ -1,7 +1,8 @@
-/* Judging a dowelled timber joint from C, and writing and reading its record.
+/* Judging a dowelled timber joint from C, and writing and reading its record, by the printed table of classes of wood or
+ * by a firm's own.
  *
  * The library is target/staticlib/libnegwishal.a, made by `scripts/library`.  docs/RECORD.md says how a record
- * is written and what each refusal means.
+ * is written and what each refusal means, docs/TABLE.md how a table is written.
  *
  * Later versions of the library know more versions of the record and refuse by numbers that do not exist yet.  A caller
  * expects numbers that are new to it: every number but 0 is a refusal.
@@ -12,7 +13,7 @@
  * - Slices that are only read may overlap one another.  A slice that is written to overlaps no other.
  * - No pointer is null, also with length 0: hand x for marks where there are none.  With length 0 a pointer may
  *   otherwise be anything that is aligned, and nothing is read or written through it.  int32_t is aligned to 4 bytes,
- *   uint64_t to 8.
+ *   uint64_t to 8; bytes, those of a table too, may stand anywhere.
  * - No memory is allocated and there is no global state: calls from several threads, each with slices of its own to
  *   write to, do not disturb each other.
  * - Every sequence of bytes, of any length, and every list of numbers is answered.  There is no failure but a slice
@@ -43,7 +44,7 @@ enum {
 /* How many numbers a report takes; the fields of a record take NEGWISHAL_VALUES. */
 enum { NEGWISHAL_FIELDS = 8 };
 
-/* Classes of wood, as a record's members name them: softwood, then hardwood. */
+/* Classes of wood of the printed table, as a record's members name them: softwood, then hardwood. */
 enum {
     NEGWISHAL_C24 = 1,
     NEGWISHAL_C30 = 2,
@@ -65,7 +66,7 @@ enum {
     NEGWISHAL_OVERLOADED = 2 /* U is above 10,000 */
 };
 
-/* What negwishal_judge returns. */
+/* What negwishal_judge and negwishal_judge_with return. */
 enum {
     NEGWISHAL_JUDGED = 0,      /* the report stands in the slice */
     NEGWISHAL_SHORT_REPORT = 1 /* report_len is below NEGWISHAL_FIELDS: nothing was judged or written */
@@ -110,7 +111,7 @@ enum {
     NEGWISHAL_AT_FY = 26
 };
 
-/* What the two entries below answer, by the place in answer. */
+/* What the two entries below, and their like with a table, answer, by the place in answer. */
 enum {
     NEGWISHAL_ANSWER_NUMBER = 0, /* number of the refusal; 0 if not refused */
     NEGWISHAL_ANSWER_LENGTH = 1, /* negwishal_write: bytes written; 0 if refused */
@@ -120,7 +121,7 @@ enum {
 /* How many numbers are needed: of fields, of each of x, y and marks where they are written to, of answer. */
 enum { NEGWISHAL_VALUES = 27, NEGWISHAL_POSITIONS = 64, NEGWISHAL_ANSWER = 2 };
 
-/* What negwishal_write and negwishal_read return. */
+/* What negwishal_write and negwishal_read return, and their like with a table. */
 enum {
     NEGWISHAL_DONE = 0,       /* the answer stands in answer */
     NEGWISHAL_SHORT_SLICE = 1 /* a slice has fewer numbers than are needed: nothing was done or written */
@@ -157,6 +158,48 @@ uint32_t negwishal_write(const int32_t *fields, size_t fields_len, const int32_t
 uint32_t negwishal_read(const uint8_t *record, size_t record_len, int32_t *fields, size_t fields_len,
                         int32_t *x, size_t x_len, int32_t *y, size_t y_len, int32_t *marks, size_t marks_len,
                         uint64_t *answer, size_t answer_len);
+
+/* A firm's own table of classes.  negwishal_judge_with, negwishal_write_with and negwishal_read_with do by it what their
+ * namesakes do by the printed table: its codes are the only classes, and a class that it lacks is a 7, NEGWISHAL_C24 and
+ * its like too.  Nothing is kept from one call to the next: hand the bytes to each call.  A record does not say by which
+ * table it is meant.
+ *
+ * A table of no bytes, length 0, is a 14, and its pointer is not null: for the printed table take the entries without
+ * one. */
+
+/* What negwishal_load returns, and by what the entries with a table refuse before anything else. */
+enum {
+    NEGWISHAL_LOADED = 0,
+    NEGWISHAL_TABLE_LAYOUT = 14, /* the bytes are not laid out as a table is */
+    NEGWISHAL_TABLE_ENTRY = 15   /* they are, but an entry is outside its limits or its code not above the one before */
+};
+
+/* Says whether the table_len bytes at table are a table, and writes nothing.  Not needed before the entries below: they
+ * make the same tests themselves. */
+uint32_t negwishal_load(const uint8_t *table, size_t table_len);
+
+/* Judges by a table, else as negwishal_judge.  With one that does not load the report is a refusal by 14 or 15 that names
+ * no member and no dowel, whatever the record.  A report of fewer than NEGWISHAL_FIELDS is looked at first: it is left as
+ * it is whole, and NEGWISHAL_SHORT_REPORT comes back, whatever the table. */
+uint32_t negwishal_judge_with(const uint8_t *table, size_t table_len, const uint8_t *record, size_t record_len,
+                              uint64_t *report, size_t report_len);
+
+/* Writes by a table, else as negwishal_write.  With one that does not load the answer is 14 or 15, before 2 and all other
+ * numbers, the length is 0 and the buffer is left as it is.  A slice of fewer numbers than are needed is looked at first.
+ *
+ * A record that was written is not refused by negwishal_read_with with the same table; with another, or none, it may be
+ * a 7. */
+uint32_t negwishal_write_with(const uint8_t *table, size_t table_len, const int32_t *fields, size_t fields_len,
+                              const int32_t *x, size_t x_len, const int32_t *y, size_t y_len, const int32_t *marks,
+                              size_t marks_len, uint8_t *buffer, size_t buffer_len, uint64_t *answer,
+                              size_t answer_len);
+
+/* Reads by a table, else as negwishal_read.  With one that does not load the answer is 14 or 15, the number of dowels is
+ * 0, and so is every number in the places of fields, x, y and marks.  A slice of fewer numbers than are needed is looked
+ * at first. */
+uint32_t negwishal_read_with(const uint8_t *table, size_t table_len, const uint8_t *record, size_t record_len,
+                             int32_t *fields, size_t fields_len, int32_t *x, size_t x_len, int32_t *y, size_t y_len,
+                             int32_t *marks, size_t marks_len, uint64_t *answer, size_t answer_len);
 
 #ifdef __cplusplus
 }

@@ -33,8 +33,8 @@ def root(n, q, k):
     return low
 
 
-def figures(record):
-    """U, C and E of an accepted record."""
+def figures(record, woods=WOOD):
+    """U, C and E of an accepted record, by a table: the printed one, or another."""
     parts = {}
     for k in range(4):
         offset, length = struct.unpack_from("<HH", record, 4 + 4 * k)
@@ -48,9 +48,9 @@ def figures(record):
     force = struct.unpack_from("<ii", parts[4], 3)
     total = force[0] ** 2 + force[1] ** 2
     along = [abs(force[m[1]]) for m in members]
-    woods = [WOOD[m[0]] for m in members]
-    num = [density * total for _, density in woods]
-    den = [(k90 + 15 * d) * (total - a * a) + 1000 * a * a for (k90, _), a in zip(woods, along)]
+    wood = [woods[m[0]] for m in members]
+    num = [density * total for _, density in wood]
+    den = [(k90 + 15 * d) * (total - a * a) + 1000 * a * a for (k90, _), a in zip(wood, along)]
     cross = [num[0] * den[1], num[1] * den[0]]
     k = 82 * (100 - d) * d
     moment = root((300 * fu) ** 5 * d ** 13, 1, 5)
@@ -112,4 +112,5 @@ def main():
     (HERE / "stdout").write_text("".join("%s: %s\n" % (name, line(record)) for name, record in joints.items()))
 
 
-main()
+if __name__ == "__main__":
+    main()

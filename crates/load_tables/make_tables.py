@@ -90,7 +90,7 @@ CASES = [
 
 def main():
     root = pathlib.Path(__file__).resolve().parent
-    cases = CASES + [(name, (root.parent.parent / "unfinished" / "a4" / "examples" / name).read_bytes(), 0) for name in ("own-table.tab", "printed-table.tab")]
+    cases = CASES + [(name, (root.parent.parent / "examples" / name).read_bytes(), 0) for name in ("own-table.tab", "printed-table.tab")]
     data = root / "data"
     data.mkdir(exist_ok=True)
     for old in data.iterdir():

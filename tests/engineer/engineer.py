@@ -1,15 +1,17 @@
-"""The engineer: an exact reference for document 01 with requests A1 to A3 of 02, written from these documents alone.
+"""The engineer: an exact reference for document 01 with requests A1 to A4 of 02, written from these documents alone.
 
 Whole numbers and fractions only.  Reference(record) settles the refusal or the
 exact quantities once; its check(line) says whether an output line is right.
-after_write and after_read say what the two C entries leave behind.
+after_write and after_read say what the C entries that write and read leave behind.
+load(table) says what a firm's table holds.  All others take what it gives, `loaded`:
+the table, or the refusal of one that did not load; without it the printed table.
 """
 from fractions import Fraction
 from math import gcd, isqrt
 import re
 
 SOFTWOOD, HARDWOOD = "softwood", "hardwood"
-WOOD = {                                                      # class: kind, density in kg/m3
+PRINTED = {                                                   # class: kind, density in kg/m3
     1: (SOFTWOOD, 350), 2: (SOFTWOOD, 380), 3: (SOFTWOOD, 385), 4: (SOFTWOOD, 365),
     5: (SOFTWOOD, 425), 6: (SOFTWOOD, 390), 7: (SOFTWOOD, 440), 8: (SOFTWOOD, 400),
     9: (HARDWOOD, 530), 10: (HARDWOOD, 550), 11: (HARDWOOD, 900),
@@ -22,14 +24,6 @@ PROGRAM_LIMIT = 4096
 BITS = 32                                                     # finer part of the quick brackets
 
 
-# ---------------------------------------------------------------- the record
-
-class Joint:
-    """The values of a record that passes 1 to 9."""
-    __slots__ = ("p", "cls", "grain", "t", "outline", "d", "steel", "dowels",
-                 "service", "duration", "fx", "fy")
-
-
 def _u16(b, at):
     return b[at] + 256 * b[at + 1]
 
@@ -39,8 +33,47 @@ def _i32(b, at):
     return n - 4294967296 if n >= 2147483648 else n
 
 
-def read(data):
-    """The refusal number 1 to 9, or the Joint."""
+# ----------------------------------------------------------------- the table
+
+def load(table):
+    """What a firm's table says (02, A4): class: kind and density, as PRINTED has them; or the refusal 14 or 15."""
+    if len(table) < 6:
+        return 14
+    count, offset, length = _u16(table, 0), _u16(table, 2), _u16(table, 4)
+    if count != 1:
+        return 14
+    if offset != 6 or offset + length != len(table):
+        return 14
+    if length == 0 or length % 4 != 0:
+        return 14
+    loaded, before = {}, None
+    for at in range(offset, offset + length, 4):
+        code, kind, density = table[at], table[at + 1], _u16(table, at + 2)
+        if code < 1 or kind not in (0, 1) or not 290 <= density <= 1100:
+            return 15
+        if before is not None and code <= before:
+            return 15
+        loaded[code] = (HARDWOOD if kind == 1 else SOFTWOOD, density)
+        before = code
+    return loaded
+
+
+def did_load(loaded):
+    return isinstance(loaded, dict)
+
+
+# ---------------------------------------------------------------- the record
+
+class Joint:
+    """The values of a record that passes 1 to 9."""
+    __slots__ = ("p", "cls", "grain", "t", "outline", "d", "steel", "dowels",
+                 "service", "duration", "fx", "fy")
+
+
+def read(data, loaded=PRINTED):
+    """The refusal number 1 to 9, 14 or 15, or the Joint."""
+    if not did_load(loaded):
+        return loaded
     if len(data) < 20:
         return 1
     if _u16(data, 0) != 1:
@@ -79,16 +112,16 @@ def read(data):
     j.fx = _i32(loads, 3)
     j.fy = _i32(loads, 7)
 
-    return value_fault(j) or j
+    return value_fault(j, loaded) or j
 
 
-def value_fault(j):
+def value_fault(j, loaded):
     """The refusal 7, 8 or 9, or 0."""
     within = (1 <= j.p <= 2 and 6 <= j.d <= 30 and 1 <= j.steel <= 3 and 1 <= len(j.dowels) <= 64
               and 1 <= j.service <= 3 and 1 <= j.duration <= 5
               and -1000000 <= j.fx <= 1000000 and -1000000 <= j.fy <= 1000000)
     for m in (0, 1):
-        within = (within and j.cls[m] in WOOD and 0 <= j.grain[m] <= 1
+        within = (within and j.cls[m] in loaded and 0 <= j.grain[m] <= 1
                   and 200 <= j.t[m] <= 4000
                   and all(-100000 <= x <= 100000 for x in j.outline[m]))
     if not within or not all(-100000 <= x <= 100000 and -100000 <= y <= 100000
@@ -143,31 +176,33 @@ def record_of(j):
     return head + body
 
 
-def written(fields, x, y, room):
+def written(fields, x, y, room, loaded=PRINTED):
     """(refusal, record): one of the two is 0 or empty.  The marks have no field in version 1."""
+    if not did_load(loaded):
+        return loaded, b""
     if fields[0] != 1:
         return 2, b""
     if len(x) != len(y):
         return 7, b""
     j = joint_of(fields, x, y)
-    number = value_fault(j)
+    number = value_fault(j, loaded)
     if number:
         return number, b""
     record = record_of(j)
     return (13, b"") if room < len(record) else (0, record)
 
 
-def after_write(fields, x, y, marks, buffer, answer):
+def after_write(fields, x, y, marks, buffer, answer, loaded=PRINTED):
     """(code, buffer, answer) after the C entry's call."""
     if len(fields) < PLACES or len(answer) < 2:
         return 1, buffer, answer
-    number, record = written(fields, x, y, len(buffer))
+    number, record = written(fields, x, y, len(buffer), loaded)
     return 0, record + buffer[len(record):], [number, len(record)] + answer[2:]
 
 
-def values_of(data):
+def values_of(data, loaded=PRINTED):
     """(refusal, number of dowels, fields, x, y, marks)."""
-    j = read(data)
+    j = read(data, loaded)
     if not isinstance(j, Joint):
         return j, 0, [0] * PLACES, [0] * DOWELS, [0] * DOWELS, [0] * DOWELS
     fields = [1, j.p]
@@ -178,11 +213,11 @@ def values_of(data):
     return 0, len(j.dowels), fields, [x for x, _ in j.dowels] + rest, [y for _, y in j.dowels] + rest, [0] * DOWELS
 
 
-def after_read(data, fields, x, y, marks, answer):
+def after_read(data, fields, x, y, marks, answer, loaded=PRINTED):
     """(code, fields, x, y, marks, answer) after the C entry's call."""
     if len(fields) < PLACES or min(len(x), len(y), len(marks)) < DOWELS or len(answer) < 2:
         return 1, fields, x, y, marks, answer
-    number, n, *lists = values_of(data)
+    number, n, *lists = values_of(data, loaded)
     return (0, *(new + old[len(new):] for new, old in zip(lists, (fields, x, y, marks))), [number, n] + answer[2:])
 
 
@@ -248,9 +283,9 @@ def spacing(j):
     return None
 
 
-def parse(data):
+def parse(data, loaded=PRINTED):
     """(number, member, first, second) for a refused record, else the Joint."""
-    j = read(data)
+    j = read(data, loaded)
     if not isinstance(j, Joint):
         return j, 0, 0, 0
     return spacing(j) or j
@@ -311,7 +346,7 @@ def least_distance(along):
 class Exact:
     """The exact quantities of an accepted joint."""
 
-    def __init__(self, j):
+    def __init__(self, j, loaded=PRINTED):
         self.joint = j
         d = j.d
         f2 = j.fx * j.fx + j.fy * j.fy
@@ -319,7 +354,7 @@ class Exact:
         for m in (0, 1):
             a, c = components(j, m)
             force_along.append(abs(a))
-            kind, density = WOOD[j.cls[m]]
+            kind, density = loaded[j.cls[m]]
             base, by_d = K90[kind]
             k = (base + by_d * d) * c * c + 1000 * a * a    # 1000 f2 (k90 sin2 + cos2)
             num, den = 82 * (100 - d) * density * f2, 100 * k
@@ -533,12 +568,13 @@ class Reference:
     """What document 01 says of one record.  With program=False the 4,096 bytes of the
     program are no rule (the library judges any length)."""
 
-    def __init__(self, data, program=True):
+    def __init__(self, data, program=True, loaded=PRINTED):
         self.refusal = self.joint = self.exact = None
-        if program and len(data) > PROGRAM_LIMIT:
+        self.loaded = loaded
+        if program and did_load(loaded) and len(data) > PROGRAM_LIMIT:
             self.refusal = (4, 0, 0, 0)
             return
-        found = parse(data)
+        found = parse(data, loaded)
         if isinstance(found, Joint):
             self.joint = found
         else:
@@ -546,7 +582,7 @@ class Reference:
 
     def values(self):
         if self.exact is None:
-            self.exact = Exact(self.joint)
+            self.exact = Exact(self.joint, self.loaded)
         return self.exact
 
     def check(self, line):
@@ -587,5 +623,5 @@ class Reference:
                                      for r in (use, cap, share)])
 
 
-def check(record, line, program=True):
-    return Reference(record, program).check(line)
+def check(record, line, program=True, loaded=PRINTED):
+    return Reference(record, program, loaded).check(line)

@@ -4,6 +4,9 @@ Those with `writes` have the two other C entries as well:
 write(fields, x, y, marks, buffer, answer) -> (code, buffer, answer) and
 read(record, fields, x, y, marks, answer) -> (code, fields, x, y, marks, answer),
 what is lent and what stands there afterwards; or a str that says what went wrong.
+
+Those with `tables` have load(table) -> number, and the other three with table=bytes
+call the entry that takes a table.
 """
 from array import array
 import ctypes
@@ -16,32 +19,44 @@ import model
 class StandIn:
     """model.py (or a wrong program) in this process."""
     program = True              # has the program's rule of 4,096 bytes
-    writes = True
+    writes = tables = True
 
     def __init__(self, cls=model.Model):
         self.cls = cls
 
-    def judge(self, data):
+    def made(self, table):
+        one = self.cls()
+        if table is not None:
+            one.handed = table
+        return one
+
+    def load(self, table):
         try:
-            return self.cls().judge(data)
+            return self.cls().load(table)
         except Exception as fault:          # a crash is an answer too, a wrong one
             return "crashed: %s: %s" % (type(fault).__name__, fault)
 
-    def write(self, fields, x, y, marks, buffer, answer):
+    def judge(self, data, table=None):
+        try:
+            return self.made(table).judge(data)
+        except Exception as fault:
+            return "crashed: %s: %s" % (type(fault).__name__, fault)
+
+    def write(self, fields, x, y, marks, buffer, answer, table=None):
         after, told = bytearray(buffer), list(answer)
         lists = [list(z) for z in (fields, x, y, marks)]
         try:
-            code = self.cls().write(*lists, after, told)
+            code = self.made(table).write(*lists, after, told)
         except Exception as fault:
             return "crashed: %s: %s" % (type(fault).__name__, fault)
         if lists != [fields, x, y, marks]:
             return "a list changed that is only read"
         return code, bytes(after), told
 
-    def read(self, record, *lent):
+    def read(self, record, *lent, table=None):
         after = [list(z) for z in lent]
         try:
-            code = self.cls().read_values(record, *after)
+            code = self.made(table).read_values(record, *after)
         except Exception as fault:
             return "crashed: %s: %s" % (type(fault).__name__, fault)
         return (code, *after)
@@ -53,7 +68,7 @@ class StandIn:
 class Command:
     """A program that gets one record on standard input and prints one line."""
     program = True
-    writes = False
+    writes = tables = False
 
     def __init__(self, command):
         self.command = shlex.split(command)
@@ -126,6 +141,14 @@ def u64s(numbers):
     return array("Q", numbers).tobytes(), U64
 
 
+def entry_of(library, name, slices):
+    """The C entry, its arguments so many slices."""
+    entry = getattr(library, name)
+    entry.restype = ctypes.c_uint32
+    entry.argtypes = (ctypes.c_void_p, ctypes.c_size_t) * slices
+    return entry
+
+
 class Library:
     """A shared object with the C entries of include/negwishal.h; the first of them may have another name.
 
@@ -144,21 +167,30 @@ class Library:
         self.call.argtypes = (ctypes.POINTER(ctypes.c_uint8), ctypes.c_size_t,
                               ctypes.POINTER(ctypes.c_uint64), ctypes.c_size_t)
         self.writes = hasattr(library, "negwishal_write")
-        if self.writes:
-            self.arena = Arena()
-            self.entries = library.negwishal_write, library.negwishal_read
-            for called in self.entries:
-                called.restype = ctypes.c_uint32
-                called.argtypes = (ctypes.c_void_p, ctypes.c_size_t) * 6
+        self.tables = self.writes and hasattr(library, "negwishal_load")
+        self.arena, self.entries = Arena(), {}
+        for has, names in ((self.writes, (("write", 6), ("read", 6))),
+                           (self.tables, (("load", 1), ("judge_with", 3), ("write_with", 7), ("read_with", 7)))):
+            for name, slices in names if has else ():
+                self.entries[name] = entry_of(library, "negwishal_" + name, slices)
 
-    def write(self, fields, x, y, marks, buffer, answer):
-        got = self.arena.call(self.entries[0], [i32s(fields), i32s(x), i32s(y), i32s(marks), (buffer, BYTES),
-                                                u64s(answer)], (4, 5))
+    def lend(self, name, table, blocks, written):
+        """Calls the entry, the one that takes a table where there is one; written: numbers of the blocks written to."""
+        if table is None:
+            return self.arena.call(self.entries[name], blocks, written)
+        return self.arena.call(self.entries[name + "_with"], [(table, BYTES), *blocks], [k + 1 for k in written])
+
+    def load(self, table):
+        got = self.arena.call(self.entries["load"], [(table, BYTES)], ())
+        return got if isinstance(got, str) else got[0]
+
+    def write(self, fields, x, y, marks, buffer, answer, table=None):
+        blocks = [i32s(fields), i32s(x), i32s(y), i32s(marks), (buffer, BYTES), u64s(answer)]
+        got = self.lend("write", table, blocks, (4, 5))
         return got if isinstance(got, str) else (*got[:2], array("Q", got[2]).tolist())
 
-    def read(self, record, *lent):
-        got = self.arena.call(self.entries[1], [(record, BYTES), *map(i32s, lent[:4]), u64s(lent[4])],
-                              (1, 2, 3, 4, 5))
+    def read(self, record, *lent, table=None):
+        got = self.lend("read", table, [(record, BYTES), *map(i32s, lent[:4]), u64s(lent[4])], (1, 2, 3, 4, 5))
         if isinstance(got, str):
             return got
         return (got[0], *(array("i", z).tolist() for z in got[1:5]), array("Q", got[5]).tolist())
@@ -175,7 +207,23 @@ class Library:
             return "verdict %d" % report["verdict"]
         return None
 
-    def judge(self, data):
+    def judge(self, data, table=None):
+        return self.judge_plain(data) if table is None else self.judge_with(table, data)
+
+    def judge_with(self, table, data):
+        count = len(self.FIELDS)
+        short = [self.MARK] * ((len(table) + len(data)) % count)
+        # a report that is too short: nothing is judged or written
+        got = self.lend("judge", table, [(data, BYTES), u64s(short)], (1,))
+        if isinstance(got, str) or got[0] != 1 or got[1] != u64s(short)[0]:
+            return "a report of %d: %r" % (len(short), got)
+        got = self.lend("judge", table, [(data, BYTES), u64s([self.MARK] * (count + 1))], (1,))
+        if isinstance(got, str):
+            return got
+        *report, mark = array("Q", got[1]).tolist()
+        return "written past the report" if mark != self.MARK else self.line(got[0], report)
+
+    def judge_plain(self, data):
         count = len(self.FIELDS)
         record = (ctypes.c_uint8 * max(1, len(data))).from_buffer_copy(data or b"\0")
         report = (ctypes.c_uint64 * (count + 1))(*([self.MARK] * (count + 1)))
@@ -184,6 +232,9 @@ class Library:
             return "record changed"
         if report[count] != self.MARK:
             return "written past the report"
+        return self.line(status, report)
+
+    def line(self, status, report):
         got = dict(zip(self.FIELDS, report))
         fault = self.status_fault(status, got)
         if fault:

@@ -1,5 +1,6 @@
 """A stand-in program: one record on standard input, one line on standard output.
-write and read_values stand in for the library's C entries.
+write, read_values and load stand in for the library's C entries; with a table in
+`handed` judge, write and read_values stand in for those that take one.
 
 Whole numbers only.  It shares nothing with engineer.py and finds its figures by
 whole roots, where the engineer tests powers.  The small methods are there so that
@@ -64,6 +65,7 @@ class Model:
         return "refused %d %d %d %d\n" % (number, member, first, second)
 
     def answer(self, data):
+        self.test_table()
         if len(data) > self.most:
             raise Refused(4)
         self.read(data)
@@ -77,6 +79,119 @@ class Model:
 
     def fits(self, use):
         return use <= 10000
+
+    # ---- a firm's table (02, A4)
+
+    handed = None           # its bytes; none in a call that takes no table
+    table = None            # what was loaded: code, then kind and density
+    table_tests = ("test_layout", "test_entries")
+    table_order = "little"
+    before_first = 0        # the first code is above it
+    densities = (290, 1100)
+
+    def load(self, table):
+        """0, 14 or 15"""
+        self.handed = table
+        try:
+            self.test_table()
+        except Refused as r:
+            return r.place[0]
+        return 0
+
+    def test_table(self):
+        if self.no_table():
+            return
+        for test in self.table_tests:
+            getattr(self, test)()
+        self.table = self.kept()
+
+    def no_table(self):
+        return self.handed is None
+
+    def table_u16(self, at):
+        return int.from_bytes(self.handed[at:at + 2], self.table_order)
+
+    def test_layout(self):
+        size = len(self.handed)
+        if self.small(size):
+            raise Refused(14)
+        count, offset, length = self.table_u16(0), self.table_u16(2), self.table_u16(4)
+        if self.wrong_count(count) or self.wrong_offset(offset) or self.wrong_end(offset, length, size) \
+                or self.no_entry(length) or self.cut_entry(length):
+            raise Refused(14)
+
+    def small(self, size):
+        return size < 6
+
+    def wrong_count(self, count):
+        return count != 1
+
+    def wrong_offset(self, offset):
+        return offset != 6
+
+    def wrong_end(self, offset, length, size):
+        return offset + length != size
+
+    def no_entry(self, length):
+        return length == 0
+
+    def cut_entry(self, length):
+        return length % 4 != 0
+
+    def stretch(self):
+        """the bytes that the pair names, as far as there are any"""
+        offset = self.table_u16(2)
+        return self.handed[offset:offset + self.table_u16(4)]
+
+    def entries(self):
+        """(code, kind, density) of each; bytes left over are no entry"""
+        found = self.stretch()
+        return [self.entry(found[at:at + 4]) for at in range(0, len(found) - 3, 4)]
+
+    def entry(self, four):
+        return four[0], four[1], int.from_bytes(four[2:], self.table_order)
+
+    def test_entries(self):
+        before = self.before_first
+        for code, kind, density in self.tested(self.entries()):
+            if self.not_above(code, before) or self.wrong_kind(kind) or self.wrong_density(density):
+                raise Refused(15)
+            before = code
+
+    def tested(self, entries):
+        return entries
+
+    def not_above(self, code, before):
+        return code <= before
+
+    def wrong_kind(self, kind):
+        return kind > 1
+
+    def wrong_density(self, density):
+        low, high = self.densities
+        return density < low or density > high
+
+    def kept(self):
+        return {code: (kind, density) for code, kind, density in self.entries()}
+
+    def look_up(self, c):
+        """kind and density in the firm's table, or None"""
+        return self.table.get(c)
+
+    def known_class(self, m):
+        c = self.cls[m]
+        if self.table is None:
+            low, high = self.limits["class"]
+            return low <= c <= high
+        return self.look_up(c) is not None
+
+    def is_hardwood(self, m):
+        c = self.cls[m]
+        return c in self.hardwood if self.table is None else self.look_up(c)[0] == 1
+
+    def density_of(self, m):
+        c = self.cls[m]
+        return self.density[c] if self.table is None else self.look_up(c)[1]
 
     # ---- reading
 
@@ -171,7 +286,8 @@ class Model:
                 if v < low or v > high:
                     raise Refused(7)
         test("p", self.p)
-        test("class", *self.cls)
+        if not (self.known_class(0) and self.known_class(1)):
+            raise Refused(7)
         test("grain", *self.grain)
         test("thickness", *self.t)
         test("coordinate", *self.outline[0], *self.outline[1])
@@ -200,7 +316,7 @@ class Model:
 
     needs = {"fields": 27, "positions": 64, "answer": 2}
     known = (1,)
-    writer_tests = ("test_known", "test_lists") + value_tests + ("test_room",)
+    writer_tests = ("test_table", "test_known", "test_lists") + value_tests + ("test_room",)
     kind_order = (1, 2, 3, 4)
 
     def write(self, fields, x, y, marks, buffer, answer):
@@ -294,6 +410,7 @@ class Model:
                 or any(self.short("positions", z) for z in (x, y, marks)):
             return 1
         try:
+            self.test_table()
             self.read(data)
         except Refused as r:
             self.refuse_read(r.place[0], fields, x, y, marks, answer)
@@ -425,12 +542,12 @@ class Model:
 
     def k90(self, m):
         """of member m, in thousandths"""
-        return (900 if self.cls[m] in self.hardwood else 1350) + 15 * self.d
+        return (900 if self.is_hardwood(m) else 1350) + 15 * self.d
 
     def bearing(self, m):
         """f as (numerator, denominator)"""
         a2, c2, f2 = self.bearing_squares(m)
-        num = 82 * (100 - self.d) * self.density[self.cls[m]] * f2
+        num = 82 * (100 - self.d) * self.density_of(m) * f2
         den = 100 * (self.k90(m) * c2 + 1000 * a2)
         g = gcd(num, den)
         return num // g, den // g

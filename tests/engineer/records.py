@@ -99,9 +99,16 @@ def oak_post():
     return v
 
 
+def own_class():
+    """The post of class 200, which only a firm's own table has (02, A4): see examples/own-table.tab."""
+    v = oak_post()
+    v["members"][1]["class"] = 200
+    return v
+
+
 def samples():
     """'Joints to try' with the line or bounds printed there; a joint of softwood and hardwood, and one whose dowels stand a
-    hair out of line, with bounds from the printed formulas in decimals: (name, record, line or bounds).
+    hair out of line, with bounds from the printed formulas in decimals; a class that is not printed: (name, record, line or bounds).
     Bounds: (verdict, U range or None, C range or None, E range or None)."""
     b = write(joint_b())
     pair = joint_b(force=(3000, 4000), dowels=[(0, 0), (504, 0)])
@@ -129,6 +136,7 @@ def samples():
         ("oak-post", write(oak_post()), ("fits", (7664, 7703), (5409, 5410), (7346, 7347))),
         ("out-of-line", write(roomy([(600 * k, k % 2) for k in range(8)], force=(50000, 0))),
          ("overloaded", (10669, 10724), (7440, 7441), (6395, 6396))),
+        ("own-class", write(own_class()), "refused 7 0 0 0\n"),
     ]
 
 

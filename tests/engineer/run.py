@@ -4,8 +4,9 @@
   run.py --program './judge'                     a program: record on stdin, line on stdout
   run.py --library path.so [--entry name]        a library through its C entries
   run.py --wrong [--count N]                     the wrong programs: each must be reported
-A library is handed N records to judge, to read and to write again, and N sets of values to write and to read.
-  run.py --show K [--seed S]                     record number K, in hex, and what 01 says of it
+A library is handed N records to judge, to read and to write again, and N sets of values to write and to read; then
+N of each with tables of firms.
+  run.py --show K [--seed S] [--tables]          record number K, in hex, and what 01 says of it; or that with its table
 Exit status 0 if all is right.
 """
 import argparse
@@ -15,9 +16,10 @@ import time
 import engineer
 import judge
 import records
+import tables
 import values
-from written import check_read, check_write
-from wrong import WRONG, WRONG_WRITERS
+from written import check_line, check_load, check_read, check_write
+from wrong import WRONG, WRONG_TABLES, WRONG_WRITERS
 
 
 def outcome(line):
@@ -42,22 +44,35 @@ def answered(code, number):
     return "slice short" if code else "refused %d" % number if number else "done"
 
 
-def run_written(program, seed, count, most, skip=0):
-    """Values through the writer, each record back through the reader."""
+def loaded_of(table):
+    """What the engineer has of a table, the printed one where none is handed in."""
+    return engineer.PRINTED if table is None else engineer.load(table)
+
+
+def run_written(program, seed, count, most, skip=0, tabled=False):
+    """Values through the writer, each record back through the reader; or this with tables."""
     outcomes, violations = Counter(), 0
     began = time.time()
-    for n, (label, handed) in enumerate(values.stream(seed, count)):
+    items = tables.value_stream(seed, count) if tabled else ((x, None, y) for x, y in values.stream(seed, count))
+    for n, (label, table, handed) in enumerate(items):
         if n < skip:
             continue
-        expected = engineer.after_write(*handed)
+        loaded = loaded_of(table)
+        expected = engineer.after_write(*handed, loaded)
         outcomes[answered(expected[0], expected[0] or expected[2][0])] += 1
-        found = check_write(program, handed, expected)
+        found = check_write(program, handed, expected, table, loaded)
+        if found is True and tabled:
+            found = check_load(program, table, loaded)
         if found is not True:
             violations += 1
             if violations <= most:
-                print("values %d (%s): %s\n  %r" % (n, label, found, handed))
-    summary("sets of values written", seed, violations, began, outcomes)
+                print("values %d (%s): %s\n  %r%s" % (n, label, found, handed, with_table(table)))
+    summary("sets of values written" + tabled * " with tables", seed, violations, began, outcomes)
     return violations
+
+
+def with_table(table):
+    return "" if table is None else "\n  with table " + (table[:1100].hex() or "of no bytes")
 
 
 def run_read(program, seed, count, most, skip=0):
@@ -85,16 +100,49 @@ def run(program, seed, count, most, skip=0):
     for n, (label, data) in enumerate(records.stream(seed, count)):
         if n < skip:
             continue
-        line = program.judge(data)
+        line, found = check_line(program, data, engineer.Reference(data, program.program))
         outcomes[outcome(line)] += 1
         kinds[label.split()[0] if label[0].isalpha() else "long or empty"] += 1
-        found = engineer.check(data, line, program.program)
         if found is not True:
             violations += 1
             if violations <= most:
                 print("record %d (%s): %s\n  %s" % (n, label, found, data[:4200].hex()))
     summary("records", seed, violations, began, outcomes)
-    print("  kinds: " + ", ".join("%s %d" % x for x in sorted(kinds.items())))
+    print("  kinds: " + counts(kinds))
+    return violations
+
+
+def counts(counter):
+    return ", ".join("%s %d" % x for x in sorted(counter.items()))
+
+
+def run_tables(program, seed, count, most, skip=0):
+    """Tables through the loader; records with them through the judge, the reader and again through all entries."""
+    outcomes, loads, kinds, read, violations = Counter(), Counter(), Counter(), Counter(), 0
+    began = time.time()
+    for n, (label, table, data) in enumerate(tables.stream(seed, count)):
+        if n < skip:
+            continue
+        loaded = engineer.load(table)
+        reference = engineer.Reference(data, program.program, loaded)
+        lent = values.lent(seed, n)
+        expected = engineer.after_read(data, *lent, loaded)
+        line, found = check_line(program, data, reference, table)
+        outcomes[outcome(line)] += 1
+        loads["loaded" if engineer.did_load(loaded) else "refused %d" % loaded] += 1
+        kinds[label.split(",")[0]] += 1
+        read[answered(expected[0], expected[0] or expected[-1][0])] += 1
+        for check in (lambda: check_load(program, table, loaded),
+                      lambda: check_read(program, data, lent, line, expected, table, loaded)):
+            found = check() if found is True else found
+        if found is not True:
+            violations += 1
+            if violations <= most:
+                print("record %d (%s): %s\n  %s%s" % (n, label, found, data[:4200].hex(), with_table(table)))
+    summary("records judged with tables, read and written again", seed, violations, began, outcomes)
+    print("  tables: " + counts(loads))
+    print("  read: " + counts(read))
+    print("  kinds: " + counts(kinds))
     return violations
 
 
@@ -150,8 +198,41 @@ def run_wrong(seed, count, only):
     return missed
 
 
+def run_wrong_tables(seed, count, only):
+    """Each wrong program by the entry that is wrong in it, until its first violation."""
+    kept = {"loading": [], "judging": [], "reading": [], "writing": []}
+    for n, (label, table, data) in enumerate(tables.stream(seed, count)):
+        loaded = engineer.load(table)
+        lent = values.lent(seed, n)
+        kept["loading"].append((n, label, check_load, (table, loaded)))
+        kept["judging"].append((n, label, judged_only, (data, engineer.Reference(data, True, loaded), table)))
+        expected = engineer.after_read(data, *lent, loaded)
+        kept["reading"].append((n, label, check_read, (data, lent, None, expected, table, loaded)))
+    for n, (label, table, handed) in enumerate(tables.value_stream(seed, count)):
+        loaded = engineer.load(table)
+        expected = engineer.after_write(*handed, loaded)
+        kept["writing"].append((n, label, check_write, (handed, expected, table, loaded)))
+    missed = tried = 0
+    print("%-16s %-58s %8s  %s" % ("entry", "wrong program with tables", "item", "why"))
+    for entry, name, cls in WRONG_TABLES:
+        if only and only not in name:
+            continue
+        tried += 1
+        program = judge.StandIn(cls)
+        found = first_report((entry, n, label, check(program, *what)) for n, label, check, what in kept[entry])
+        missed += found is None
+        print("%-16s %-58s %8s" % (entry, name, "MISSED") if found is None
+              else "%-16s %-58s %8d  (%s) %s" % (entry, name, *found[1:]))
+    print("%d wrong programs with tables, %d missed, %d sets of values and records, seed %d" % (tried, missed, count, seed))
+    return missed
+
+
+def judged_only(program, data, reference, table):
+    return check_line(program, data, reference, table)[1]
+
+
 def run_all(program, a):
-    """The violations of judging and, where the program writes, of writing and reading."""
+    """The violations of judging and, where the program has them, of writing and reading and of all with tables."""
     count = a.count or 20000
     violations = run(program, a.seed, count, a.most, a.skip)
     if program.writes:
@@ -160,7 +241,24 @@ def run_all(program, a):
     elif a.library:
         violations += 1
         print("the library has no negwishal_write")
+    if program.tables:
+        violations += run_tables(program, a.seed, count, a.most, a.skip)
+        violations += run_written(program, a.seed, count, a.most, a.skip, tabled=True)
+    elif a.library:
+        violations += 1
+        print("the library has no negwishal_load")
     return violations
+
+
+def show_table(seed, number):
+    for n, (label, table, data) in enumerate(tables.stream(seed, number + 1)):
+        if n == number:
+            loaded = engineer.load(table)
+            print(label)
+            print("table: " + table.hex())
+            print("loads: %s" % (loaded if engineer.did_load(loaded) else "refused %d" % loaded))
+            print("record: " + data.hex())
+            print("library: " + engineer.Reference(data, False, loaded).describe())
 
 
 def show(seed, number):
@@ -183,14 +281,16 @@ def main():
     p.add_argument("--wrong", action="store_true")
     p.add_argument("--only", help="with --wrong: names that contain this")
     p.add_argument("--show", type=int)
+    p.add_argument("--tables", action="store_true", help="with --show: a record with a table")
     p.add_argument("--most", type=int, default=50, help="violations printed in full")
     a = p.parse_args()
     if a.show is not None:
-        show(a.seed, a.show)
+        (show_table if a.tables else show)(a.seed, a.show)
         return 0
     if a.wrong:
         missed = run_wrong(a.seed, a.count or 25000, a.only)
         missed += run_wrong_writers(a.seed, a.count or 8000, a.only)
+        missed += run_wrong_tables(a.seed, a.count or 5000, a.only)
         return 1 if missed else 0
     if a.library:
         program = judge.Library(a.library, a.entry)

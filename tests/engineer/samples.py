@@ -1,6 +1,6 @@
-"""Writes the samples of records.py and the line of each into a folder.
+"""Writes the samples of records.py, the line of each, a firm's table and the lines by it into a folder.
 
-  samples.py FOLDER           writes *.rec and lines.txt
+  samples.py FOLDER           writes *.rec, lines.txt, *.tab and own-table-lines.txt
   samples.py --check FOLDER   compares them with what it would write
 """
 import os
@@ -8,19 +8,35 @@ import sys
 
 import engineer
 import records
+import tables
 
 HEAD = """\
 # The line that each record gives.  low..high: the figure is free from low to high, both
 # included (U, C and E in this order); a verdict follows from U: fits up to 10,000.
 """
 
+OWN_HEAD = """\
+# The line that each record gives by the table in own-table.tab, as lines.txt has those by the
+# printed table.  Of the printed classes it has 1 and 9, and no more.
+"""
+
+# the sawmill of examples/write_own_table.py
+OWN = tables.assemble([(1, tables.SOFT, 372), (9, tables.HARD, 580), (200, tables.HARD, 660)])
+
+
+def lines(head, loaded):
+    for name, data, _ in records.samples():
+        head += "%s: %s\n" % (name, engineer.Reference(data, loaded=loaded).describe())
+    return head.encode()
+
 
 def files():
-    lines = HEAD
     for name, data, _ in records.samples():
         yield name + ".rec", data
-        lines += "%s: %s\n" % (name, engineer.Reference(data).describe())
-    yield "lines.txt", lines.encode()
+    yield "lines.txt", lines(HEAD, engineer.PRINTED)
+    yield "own-table.tab", OWN
+    yield "printed-table.tab", tables.PRINTED
+    yield "own-table-lines.txt", lines(OWN_HEAD, engineer.load(OWN))
 
 
 def main():

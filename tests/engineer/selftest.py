@@ -1,6 +1,6 @@
-"""Tests of the engineer itself: against the figures that document 01 prints, a joint of D30 and joints out of line worked out by
-the formulas, and against their sentences taken literally with fractions, A3's with all sets of dowels; of its writer against 02's
-sentences on A2.
+"""Tests of the engineer itself: against the figures that document 01 prints, a joint of D30, joints out of line and
+graded ones worked out by the formulas, and against their sentences taken literally with fractions, A3's with all sets
+of dowels; of its writer and its tables against 02's sentences on A2 and A4.
 
   selftest.py [--count N] [--seed S]     with N records made by chance
 """
@@ -14,10 +14,14 @@ import struct
 import engineer
 import judge
 import records
+import tables
 import values
 import written
 
 DIGITS = 60
+# class: k90 without its 0.015 d, and density
+WOODS = {c: ("1.35" if c <= 8 else "0.90", density) for c, density in enumerate(
+    (350, 380, 385, 365, 425, 390, 440, 400, 530, 550, 900), 1)}
 
 
 SUBSETS = 8                 # up to so many dowels all sets of them are tried
@@ -42,19 +46,18 @@ def rows_of(across, d):
 
 
 class Literal:
-    """Document 01 word for word, in fractions, with 02's rows."""
+    """Document 01 word for word, in fractions, with 02's rows and the woods of a table."""
 
-    def __init__(self, j):
+    def __init__(self, j, woods=WOODS):
         self.j = j
         self.f2 = Fraction(j.fx ** 2 + j.fy ** 2)
         self.f = []
         for m in (0, 1):
             along = (j.fx, j.fy)[j.grain[m]]
             cos2 = along ** 2 / self.f2
-            k90 = Fraction("1.35" if j.cls[m] <= 8 else "0.90") + Fraction("0.015") * j.d
-            self.f.append(Fraction("0.082") * (1 - Fraction("0.01") * j.d)
-                          * (350, 380, 385, 365, 425, 390, 440, 400, 530, 550, 900)[j.cls[m] - 1]
-                          / (k90 * (1 - cos2) + cos2))
+            base, density = woods[j.cls[m]]
+            k90 = Fraction(base) + Fraction("0.015") * j.d
+            self.f.append(Fraction("0.082") * (1 - Fraction("0.01") * j.d) * density / (k90 * (1 - cos2) + cos2))
         f1, f2 = self.f
         fu = (360, 430, 510)[j.steel - 1]
         self.one = (Fraction("2.3") ** 10 * (j.d * f1 * f2 / (f1 + f2)) ** 5
@@ -175,11 +178,97 @@ def printed():
 def hardwood():
     """D30 in both members, the force across the grain; and the same joint with softwood's k90."""
     data = dict(records.hardwood_joints())["d30-both-12mm-x-x-0-20000"]
-    kept = engineer.WOOD[9]
-    for kind, said in ((engineer.HARDWOOD, (8810, 8811)), (engineer.SOFTWOOD, (7401, 7402))):
-        engineer.WOOD[9] = (kind, 530)
-        assert engineer.Reference(data).values().ranges()[1] == said, kind
-    engineer.WOOD[9] = kept
+    assert engineer.Reference(data).values().ranges()[1] == (8810, 8811)
+    for kind, said in ((tables.HARD, (8810, 8811)), (tables.SOFT, (7401, 7402))):
+        loaded = engineer.load(tables.assemble([(9, kind, 530)]))
+        assert engineer.Reference(data, loaded=loaded).values().ranges()[1] == said, kind
+
+
+# a table in hexadecimal, and the number at loading; by hand
+LOADED = (
+    ("0100 0600 0400 c801 8403", 0), ("0100 0600 0800 0100 2201 ff01 4c04", 0), ("0100 0600 0400 0100 2101", 15),
+    ("0100 0600 0400 0100 4d04", 15), ("0100 0600 0400 0102 8403", 15), ("0100 0600 0400 0000 8403", 15),
+    ("0100 0600 0800 0700 5e01 0701 8403", 15), ("0100 0600 0800 0800 5e01 0701 8403", 15), ("0100 0600 0400 c801 0384", 15),
+    ("", 14), ("0100 0600 00", 14), ("0100 0600 0000", 14), ("0100 0600 0300 c801 84", 14),
+    ("0100 0600 0400 c801 8403 00", 14), ("0100 0600 0400 c801 84", 14), ("0000 0600 0400 c801 8403", 14), ("0200 0600 0400 c801 8403", 14),
+    ("0001 0006 0004 c801 8403", 14), ("0100 0500 0400 c801 84", 14), ("0100 0700 0400 00 c801 8403", 14),
+    ("0100 0600 0800 c801 8403", 14), ("0100 0600 0000 c801 8403", 14), ("0200 0600 0400 0002 0000", 14),
+)
+
+
+def graded():
+    """Request A4: the numbers above, class 1 graded in joint B across the grain, a class of the firm's own."""
+    for text, number in LOADED:
+        loaded = engineer.load(bytes.fromhex(text))
+        assert (0 if engineer.did_load(loaded) else loaded) == number, text
+    assert engineer.load(bytes.fromhex(LOADED[1][0])) == {1: (engineer.SOFTWOOD, 290), 255: (engineer.HARDWOOD, 1100)}
+    assert engineer.load(tables.PRINTED) == engineer.PRINTED
+    assert len(tables.LONG[0]) == 65538 and engineer.load(tables.LONG[0]) == 15
+    assert len(engineer.load(tables.assemble(tables.FULL))) == 255
+    assert engineer.load(tables.assemble(tables.FULL + [(255, tables.SOFT, 400)])) == 15
+    for kind, said in ((tables.HARD, (11480, 11481)), (tables.SOFT, (9645, 9646))):
+        ref = engineer.Reference(records.write(tables.across_b()), loaded=engineer.load(tables.graded(kind)))
+        assert ref.values().ranges()[1] == said, kind
+    own = engineer.load(tables.assemble([(200, tables.SOFT, 350)]))
+    b = records.write(records.joint_b())
+    for classes in ((200, 200), (1, 200), (200, 1), (9, 200), (200, 9), (1, 9), (1, 1)):
+        line = engineer.Reference(b).describe() if classes == (200, 200) else "refused 7 0 0 0"
+        assert engineer.Reference(tables.reclassed(b, classes), loaded=own).describe() == line, classes
+    # a table that did not load comes before every test
+    _, _, fields, x, y, _ = engineer.values_of(b)
+    for number in (14, 15):
+        for data in (b"", b, b[:19], b"\2" + b[1:], bytes(5000)):
+            assert engineer.Reference(data, loaded=number).describe() == "refused %d 0 0 0" % number
+            assert engineer.values_of(data, number) == (number, 0, [0] * 27, [0] * 64, [0] * 64, [0] * 64)
+        lent = [9] + fields[1:], x[:4], y[:3], []
+        assert engineer.after_write(*lent, b"kept", [5, 6, 7], number) == (0, b"kept", [number, 0, 7])
+        assert engineer.after_write(fields[:26], x, y, [], b"kept", [5, 6], number) == (1, b"kept", [5, 6])
+        assert engineer.after_read(b, fields, x, y, [1] * 63, [5, 6], number) == (1, fields, x, y, [1] * 63, [5, 6])
+
+
+def load_fault(table):
+    """02's A4 sentence by sentence: the number, and the entries."""
+    if len(table) < 6:
+        return 14, []
+    count, offset, length = struct.unpack_from("<HHH", table)
+    entries = [struct.unpack_from("<BBH", table, at) for at in range(6, len(table) - 3, 4)]
+    tests = (
+        (14, count != 1), (14, offset != 6), (14, offset + length != len(table)), (14, length == 0), (14, length % 4 != 0),
+        (15, not all(code >= 1 and kind in (0, 1) and 290 <= density <= 1100 for code, kind, density in entries)),
+        (15, any(b[0] <= a[0] for a, b in zip(entries, entries[1:]))),
+    )
+    return next((number for number, holds in tests if holds), 0), entries
+
+
+def woods_of(entries):
+    return {code: (("1.35", "0.90")[kind], density) for code, kind, density in entries}
+
+
+def loading(seed, count):
+    """Tables by the literal text, and the numbers of model.py."""
+    r, stand_in, right = Random(seed), judge.StandIn(), 0
+    some = [(name, table) for name, table, _ in tables.systematic_tables()]
+    some += [tables.some_table(r, [1, 9])[:2] for _ in range(count)]
+    for name, table in some:
+        number, entries = load_fault(table)
+        loaded = engineer.load(table)
+        assert loaded == number if number else loaded == {
+            code: ((engineer.SOFTWOOD, engineer.HARDWOOD)[kind], density) for code, kind, density in entries}, name
+        assert stand_in.load(table) == number, name
+        right += number == 0
+    return len(some), right
+
+
+EVERY = {code: (engineer.SOFTWOOD, 350) for code in range(256)}
+
+
+def read_number(data, codes):
+    """The refusal 1 to 9 with a table of these codes, from what is read with every class known."""
+    j = engineer.read(data, EVERY)
+    number = 0 if isinstance(j, engineer.Joint) else j
+    if 1 <= number <= 6:
+        return number
+    return number if all(data[at] in codes for at in tables.class_places(data)) else 7
 
 
 # joint B otherwise in wide outlines: U and E of rows-.. in records.py
@@ -239,24 +328,40 @@ def ties():
             assert x.ranges()[0] == (1000 * tenths, 1005 * tenths + 2), label
 
 
-def literal(seed, count):
-    r = Random(seed)
-    accepted = spaced = 0
+def plain_items(seed, count):
+    """A seventh of the systematic records, then some by chance: (label, record, number of the table, loaded, woods)."""
     systematic = sum(1 for _ in records.systematic())
     for n, (label, data) in enumerate(records.stream(seed, systematic + count)):
-        if n % 7 and n < systematic:
-            continue                            # a seventh of the systematic records
-        j = engineer.read(data)
+        if n >= systematic or n % 7 == 0:
+            yield label, data, 0, engineer.PRINTED, WOODS
+
+
+def tabled_items(seed, count):
+    """The same with tables; a fifth of the systematic ones."""
+    some = [item for n, item in enumerate(tables.record_items()) if n % 5 == 0]
+    some += [tables.generate(seed, n, *records.generate(seed, n)) for n in range(count)]
+    for label, table, data in some:
+        number, entries = load_fault(table)
+        yield label, data, number, engineer.load(table), {} if number else woods_of(entries)
+
+
+def literal(seed, items):
+    r = Random(seed)
+    accepted = spaced = 0
+    for n, (label, data, number, loaded, woods) in enumerate(items):
+        j = engineer.read(data, loaded)
         if not isinstance(j, engineer.Joint):
+            assert j == (number or read_number(data, woods)), (n, label)
             continue
-        lit = Literal(j)
+        assert number == 0 == read_number(data, woods), (n, label)
+        lit = Literal(j, woods)
         spaced += 1
         found = engineer.spacing(j)
         assert found == lit.spacing(), (n, label)
         if found or len(j.dowels) > 20:
             continue
         accepted += 1
-        x = engineer.Exact(j)
+        x = engineer.Exact(j, loaded)
         (low, high), (_, cap), (_, share) = x.ranges()
         for y in (Fraction(cap), Fraction(cap + 1), cap + Fraction(r.randrange(10 ** 9), 10 ** 9),
                   Fraction(r.randrange(2 * cap)), Fraction(0)):
@@ -301,9 +406,11 @@ def packed(fields, x, y):
     return out + struct.pack("<BBBii", 4, service, duration, fx, fy)
 
 
-def first_fault(fields, x, y, room):
-    """02's A2 sentence by sentence."""
+def first_fault(fields, x, y, room, codes=tuple(WOODS)):
+    """02's A2 sentence by sentence, with the codes of a table."""
     fits = [limit is None or limit[0] <= z <= limit[1] for z, limit in zip(fields, values.LIMITS)]
+    for at in (values.CLASS_1, values.CLASS_2):
+        fits[at] = fields[at] in codes
     places = [-100000 <= z <= 100000 for z in x + y]
     tests = (
         (2, not fits[0]),
@@ -326,8 +433,8 @@ WRITTEN = (
 )
 
 
-def writing(seed, count):
-    """The writer and the reader of values: joint B, the numbers above, then values by the literal text, and model.py's."""
+def writing():
+    """The writer and the reader of values: joint B and the numbers above."""
     b = records.write(records.joint_b())
     number, n, fields, x, y, marks = engineer.values_of(b)
     assert (number, n, marks) == (0, 4, [0] * 64) and packed(fields, x[:n], y[:n]) == b
@@ -335,18 +442,39 @@ def writing(seed, count):
         f = [change.get(at, z) for at, z in enumerate(fields)]
         got, record = engineer.written(f, x[:nx] + [1] * (nx - 64), y[:ny] + [1] * (ny - 64), room)
         assert got == want and len(record) == (78 + 8 * nx if want == 0 else 0), (change, nx, ny, room, got)
+
+
+def plain_values(seed, count):
+    """(label, table, values)"""
+    systematic = sum(1 for _ in values.systematic())
+    for label, h in values.stream(seed, systematic + count):
+        yield label, None, h
+
+
+def tabled_values(seed, count):
+    yield from tables.value_stream(seed, sum(1 for _ in tables.value_items()))
+    for n in range(count):
+        label, it = values.generate(seed, n)
+        yield tables.generate_values(seed, n, label, values.filled(seed, n, it))
+
+
+def written_all(items):
+    """Values by the literal text, and model.py's."""
     stand_in, written_ones = judge.StandIn(), 0
-    for n, (label, h) in enumerate(values.stream(seed, count)):
-        code, buffer, answer = engineer.after_write(*h)
+    for n, (label, table, h) in enumerate(items):
+        number, entries = (0, None) if table is None else load_fault(table)
+        loaded = engineer.PRINTED if table is None else engineer.load(table)
+        code, buffer, answer = engineer.after_write(*h, loaded)
         if code:
             assert (len(h.fields) < 27 or len(h.answer) < 2) and (buffer, answer) == (h.buffer, h.answer), (n, label)
             continue
-        number = first_fault(h.fields, h.x, h.y, len(h.buffer))
+        codes = WOODS if table is None else {code for code, _, _ in entries}
+        number = number or first_fault(h.fields, h.x, h.y, len(h.buffer), codes)
         record = b"" if number else packed(h.fields, h.x, h.y)
         written_ones += number == 0
         assert answer == [number, len(record)] + h.answer[2:], (n, label)
         assert buffer == record + h.buffer[len(record):], (n, label)
-        assert written.check_write(stand_in, h) is True, (n, label)
+        assert written.check_write(stand_in, h, None, table, loaded) is True, (n, label)
     return written_ones
 
 
@@ -358,13 +486,15 @@ def main():
     printed()
     hardwood()
     out_of_line()
+    graded()
+    writing()
     all_sets(a.seed, 3 * a.count)
     ties()
-    spaced, accepted = literal(a.seed, a.count)
-    print("printed figures and ties right; %d spacings, %d joints and the rows of %d more as the literal text has them"
-          % (spaced, accepted, 3 * a.count))
-    systematic = sum(1 for _ in values.systematic())
-    print("%d records written as the literal text has them" % writing(a.seed, systematic + a.count))
+    print("printed figures and ties right, the rows of %d joints as the literal text has them" % (3 * a.count))
+    print("%d tables, %d of them right, as the literal text has them" % loading(a.seed, 5 * a.count))
+    for items, handed, what in ((plain_items, plain_values, ""), (tabled_items, tabled_values, " with tables")):
+        print("%d spacings and %d joints%s as the literal text has them" % (*literal(a.seed, items(a.seed, a.count)), what))
+        print("%d records written%s as the literal text has them" % (written_all(handed(a.seed, a.count)), what))
 
 
 if __name__ == "__main__":

@@ -1,6 +1,11 @@
-"""Holds a program's writer and reader of values to the engineer: what each leaves in every slice,
-and 02's laws of A2 from one to the other."""
+"""Holds a program's answers to the engineer: its lines, what its writer and its reader of values leave in
+every slice, 02's laws of A2 from one to the other, and what it says of a table.
+
+table: the bytes handed in, None for the entry that takes none; loaded: what engineer.load gives for them.
+Where no table is handed in, the printed one written as a firm's must give the same answer.
+"""
 import engineer
+from tables import PRINTED
 from values import Handed
 
 WRITE = ("code", "buffer", "answer")
@@ -21,13 +26,36 @@ def differ(names, want, got):
     return None
 
 
-def check_write(program, handed, expected=None):
+def check_load(program, table, loaded):
+    """True, or the reason why the number is wrong."""
+    want = 0 if engineer.did_load(loaded) else loaded
+    got = program.load(table)
+    return True if got == want else "loaded: %r, should be %d" % (got, want)
+
+
+def check_line(program, data, reference, table=None):
+    """The line, and True or the reason why it is wrong."""
+    line = program.judge(data, table) if program.tables else program.judge(data)
+    found = reference.check(line)
+    if found is True and program.tables and table in (None, PRINTED):
+        other = program.judge(data, PRINTED if table is None else None)
+        if other != line:
+            plain, tabled = (line, other) if table is None else (other, line)
+            return line, "judged without a table %r, with the printed one %r" % (plain, tabled)
+    return line, found
+
+
+def check_write(program, handed, expected=None, table=None, loaded=engineer.PRINTED):
     """True, or the reason why the call is wrong."""
-    want = expected or engineer.after_write(*handed)
-    got = program.write(*handed)
+    want = expected or engineer.after_write(*handed, loaded)
+    got = program.write(*handed, table=table)
     fault = differ(WRITE, want, got)
     if fault:
         return "written: " + fault
+    if table is None and program.tables:
+        fault = differ(WRITE, got, program.write(*handed, table=PRINTED))
+        if fault:
+            return "written with the printed table: " + fault
     code, buffer, answer = got
     if code or answer[0]:
         return True
@@ -35,7 +63,7 @@ def check_write(program, handed, expected=None):
     n = len(handed.x)
     rest = [0] * (engineer.DOWELS - n)
     back = (0, engineer.normal(handed.fields), handed.x + rest, handed.y + rest, [0] * engineer.DOWELS, [0, n])
-    fault = differ(READ, back, program.read(buffer[:answer[1]], *blank()))
+    fault = differ(READ, back, program.read(buffer[:answer[1]], *blank(), table=table))
     return "read back: " + fault if fault else True
 
 
@@ -43,30 +71,37 @@ def blank():
     return [-1] * engineer.PLACES, [-1] * engineer.DOWELS, [-1] * engineer.DOWELS, [-1] * engineer.DOWELS, [7, 7]
 
 
-def check_read(program, data, lent, line=None, expected=None):
+def check_read(program, data, lent, line=None, expected=None, table=None, loaded=engineer.PRINTED):
     """True, or the reason why the call is wrong; line is the program's for these bytes."""
-    want = expected or engineer.after_read(data, *lent)
-    got = program.read(data, *lent)
+    want = expected or engineer.after_read(data, *lent, loaded)
+    got = program.read(data, *lent, table=table)
     fault = differ(READ, want, got)
     if fault:
         return "read: " + fault
+    if table is None and program.tables:
+        fault = differ(READ, got, program.read(data, *lent, table=PRINTED))
+        if fault:
+            return "read with the printed table: " + fault
     if got[0]:
-        return check_read(program, data, blank(), line)         # a slice was too short: now with long enough ones
+        # a slice was too short: now with long enough ones
+        return check_read(program, data, blank(), line, table=table, loaded=loaded)
     _, fields, x, y, marks, (number, n, *_) = got
     if number:
         return True
     # written again into a buffer at least as long, it reads alike
     again = Handed(fields, x[:n], y[:n], marks[:n], b"\xa5" * (len(data) + len(lent[4])), [7, 7])
-    back = program.write(*again)
-    fault = differ(WRITE, engineer.after_write(*again), back)
+    back = program.write(*again, table=table)
+    fault = differ(WRITE, engineer.after_write(*again, loaded), back)
     if fault:
         return "written again: " + fault
     record = back[1][:back[2][1]]
     if back[2][0] != 0 or len(record) != 78 + 8 * n:
         return "written again: answer %r" % back[2]
-    fault = differ(READ, got, program.read(record, *lent))
+    fault = differ(READ, got, program.read(record, *lent, table=table))
     if fault:
         return "read again: " + fault
-    if line is not None and program.judge(record) != line:
-        return "judged again: %r, was %r" % (program.judge(record), line)
+    if line is not None:
+        other = program.judge(record, table)
+        if other != line:
+            return "judged again: %r, was %r" % (other, line)
     return True

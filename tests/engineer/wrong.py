@@ -1,10 +1,13 @@
-"""Wrong programs, and wrong writers and readers: model.py with one thing changed in each.  The harness must report all."""
+"""Wrong programs, wrong writers and readers, and programs wrong with tables: model.py with one thing changed in each.
+The harness must report all."""
+from itertools import takewhile
 from math import atan2, cos, isqrt, sin      # floating point in wrong programs only
 
 from model import Model, Refused, ceil_div
 
 WRONG = []          # (group, name, class)
 WRONG_WRITERS = []  # the same, for the entries that write and read values
+WRONG_TABLES = []   # (entry that is wrong, name, class), for the entries that take a table
 
 
 def wrong(group, name):
@@ -1346,3 +1349,416 @@ unread("9 before 8", value_tests=("test_fields", "test_force", "test_outlines"))
 unread("kinds in fixed order only", test_kinds=lambda self: (_ for _ in ()).throw(Refused(5))
        if [self.data[o] for o, _ in self.pairs] != [1, 2, 3, 4] else None)
 unread("version not tested", test_version=lambda self: None)
+
+# ---------------------------------------------------------------------------- tables
+
+ENTRY = {"loading": "load", "judging": "judge", "reading": "read_values", "writing": "write"}
+
+
+def mistables(where, name, /, **methods):
+    """For each of these entries a program with the fault in this entry alone."""
+    bad = type("Bad", (Model,), methods)
+    for what in where:
+        def call(self, *lent, entry=ENTRY[what]):
+            self.__class__ = bad
+            return getattr(self, entry)(*lent)
+        WRONG_TABLES.append((what, name, type("Wrong", (Model,), {ENTRY[what]: call})))
+
+
+def throw(number):
+    raise Refused(number)
+
+
+def misloads(name, /, **methods):
+    mistables(ENTRY, name, **methods)
+
+
+def renumbered(numbers):
+    """A table's refusals by other numbers."""
+    def test_table(self):
+        try:
+            Model.test_table(self)
+        except Refused as r:
+            throw(numbers.get(r.place[0], r.place[0]))
+    return test_table
+
+
+def not_loaded(then):
+    """What is done with a table that does not load."""
+    def test_table(self):
+        try:
+            Model.test_table(self)
+        except Refused as r:
+            then(self, r)
+    return test_table
+
+
+misloads("15 tested before 14", table_tests=("test_entries", "test_layout"))
+misloads("14 and 15 exchanged", test_table=renumbered({14: 15, 15: 14}))
+misloads("15 for both", test_table=renumbered({14: 15}))
+misloads("14 for both", test_table=renumbered({15: 14}))
+misloads("always 14", test_layout=lambda self: throw(14))
+misloads("always 15", test_layout=lambda self: throw(15))
+misloads("nothing tested", table_tests=())
+misloads("14 not tested", table_tests=("test_entries",))
+misloads("15 not tested", table_tests=("test_layout",))
+misloads("no bytes taken as the printed table", no_table=lambda self: not self.handed)
+misloads("fewer than 6 bytes taken as the printed table", no_table=lambda self: self.handed is None or len(self.handed) < 6)
+misloads("fewer than 6 bytes is 15", small=lambda self, size: size < 6 and throw(15))
+misloads("no bytes is 15", small=lambda self, size: throw(15) if size == 0 else size < 6)
+misloads("what does not load taken as the printed table", test_table=not_loaded(lambda self, r: None))
+misloads("15 taken as the printed table", test_table=not_loaded(lambda self, r: throw(14) if r.place[0] == 14 else None))
+misloads("14 taken as the printed table", test_table=not_loaded(lambda self, r: throw(15) if r.place[0] == 15 else None))
+
+misloads("count not tested", wrong_count=lambda self, n: False)
+misloads("count 0 accepted", wrong_count=lambda self, n: n > 1)
+misloads("count 2 accepted", wrong_count=lambda self, n: n not in (1, 2))
+misloads("count by its low byte", wrong_count=lambda self, n: n & 255 != 1)
+misloads("count by its low bit", wrong_count=lambda self, n: n & 1 != 1)
+misloads("count 2 asked", wrong_count=lambda self, n: n != 2)
+
+misloads("offset not tested", wrong_offset=lambda self, at: False)
+misloads("offset not tested, entries from 6", wrong_offset=lambda self, at: False,
+         stretch=lambda self: self.handed[6:])
+misloads("offset 5 accepted", wrong_offset=lambda self, at: at not in (5, 6))
+misloads("offset 7 accepted", wrong_offset=lambda self, at: at not in (6, 7))
+misloads("offset 7 accepted, entries from 6", wrong_offset=lambda self, at: at not in (6, 7),
+         stretch=lambda self: self.handed[6:])
+misloads("offset above 6 accepted", wrong_offset=lambda self, at: at < 6)
+misloads("offset below 6 accepted", wrong_offset=lambda self, at: at > 6)
+misloads("offset by its low byte", wrong_offset=lambda self, at: at & 255 != 6)
+
+misloads("end not tested", wrong_end=lambda self, at, n, size: False)
+misloads("trailing bytes accepted", wrong_end=lambda self, at, n, size: at + n > size)
+misloads("up to 3 trailing bytes accepted", wrong_end=lambda self, at, n, size: not 0 <= size - at - n < 4)
+misloads("one trailing byte accepted", wrong_end=lambda self, at, n, size: size - at - n not in (0, 1))
+misloads("trailing bytes taken for entries", wrong_end=lambda self, at, n, size: at + n > size,
+         stretch=lambda self: self.handed[6:])
+misloads("a pair beyond the end accepted", wrong_end=lambda self, at, n, size: at + n < size)
+misloads("a pair one byte beyond the end accepted", wrong_end=lambda self, at, n, size: at + n - size not in (0, 1))
+misloads("length counted from the table's start", wrong_end=lambda self, at, n, size: n != size)
+misloads("sum in 16 bits", wrong_end=lambda self, at, n, size: (at + n) % 65536 != size)
+misloads("size in 16 bits", wrong_end=lambda self, at, n, size: at + n != size % 65536)
+misloads("sum and size in 16 bits", wrong_end=lambda self, at, n, size: (at + n - size) % 65536 != 0)
+misloads("length by its low byte", wrong_end=lambda self, at, n, size: at + n % 256 != size)
+
+misloads("length 0 accepted", no_entry=lambda self, n: False)
+misloads("length 0 is 15", no_entry=lambda self, n: n == 0 and throw(15))
+misloads("length no multiple of 4 accepted", cut_entry=lambda self, n: False)
+misloads("length a multiple of 2 enough", cut_entry=lambda self, n: n % 2 != 0)
+misloads("length a multiple of 8 asked", cut_entry=lambda self, n: n % 8 != 0)
+misloads("length no multiple of 4 is 15", cut_entry=lambda self, n: n % 4 != 0 and throw(15))
+misloads("length 3 accepted", cut_entry=lambda self, n: n % 4 != 0 and n != 3)
+
+for _low, _high in ((289, 1100), (291, 1100), (290, 1099), (290, 1101), (0, 1100), (290, 65535), (300, 1100), (290, 1000)):
+    misloads("density from %d to %d" % (_low, _high), densities=(_low, _high))
+misloads("big-endian density", entry=lambda self, four: (four[0], four[1], int.from_bytes(four[2:], "big")))
+misloads("big-endian throughout", table_order="big")
+misloads("density in 15 bits", entry=lambda self, four: (four[0], four[1], int.from_bytes(four[2:], "little") & 32767))
+misloads("density in 10 bits", entry=lambda self, four: (four[0], four[1], int.from_bytes(four[2:], "little") & 1023))
+misloads("kind before code", entry=lambda self, four: (four[1], four[0], int.from_bytes(four[2:], "little")))
+misloads("density first", entry=lambda self, four: (four[2], four[3], int.from_bytes(four[:2], "little")))
+misloads("kind 2 accepted", wrong_kind=lambda self, kind: kind > 2)
+misloads("kind 255 accepted", wrong_kind=lambda self, kind: kind not in (0, 1, 255))
+misloads("kind not tested", wrong_kind=lambda self, kind: False)
+misloads("kind 1 refused", wrong_kind=lambda self, kind: kind > 0)
+misloads("kind 0 refused", wrong_kind=lambda self, kind: kind != 1)
+misloads("kind by its low bit", entry=lambda self, four: (four[0], four[1] & 1, int.from_bytes(four[2:], "little")))
+misloads("kind as 1 and 2", wrong_kind=lambda self, kind: kind not in (1, 2),
+         is_hardwood=lambda self, m: self.look_up(self.cls[m])[0] == 2)
+
+misloads("code 0 accepted", before_first=-1)
+misloads("code 1 refused", before_first=1)
+misloads("code 255 refused", not_above=lambda self, code, before: code <= before or code == 255)
+misloads("equal codes accepted, the last of them", not_above=lambda self, code, before: code < before or code == 0)
+misloads("equal codes accepted, the first of them", not_above=lambda self, code, before: code < before or code == 0,
+         kept=lambda self: {code: (kind, density) for code, kind, density in self.entries()[::-1]})
+misloads("falling codes accepted", not_above=lambda self, code, before: code in (0, before))
+misloads("codes not tested", not_above=lambda self, code, before: False)
+misloads("codes 0 only tested", not_above=lambda self, code, before: code == 0)
+misloads("codes that leave one out refused",
+         not_above=lambda self, code, before: code <= before or before > 0 and code > before + 1)
+misloads("codes from 1 on asked", not_above=lambda self, code, before: code != before + 1)
+misloads("codes as signed bytes", not_above=lambda self, code, before: code == 0 or (
+    before > 0 and (code ^ 128) <= (before ^ 128)))
+misloads("codes up to 11 only", not_above=lambda self, code, before: code <= before or code > 11)
+misloads("codes up to 127 only", not_above=lambda self, code, before: code <= before or code > 127)
+misloads("the printed codes refused", not_above=lambda self, code, before: code <= before or code < 12)
+
+
+def test_by_first(self):
+    """Each code compared with the first one."""
+    found = self.entries()
+    for k, (code, kind, density) in enumerate(found):
+        if code <= (found[0][0] if k else 0) or self.wrong_kind(kind) or self.wrong_density(density):
+            throw(15)
+
+
+misloads("codes compared with the first one", test_entries=test_by_first)
+misloads("an entry twice accepted", tested=lambda self, found: [
+    e for k, e in enumerate(found) if k == 0 or e != found[k - 1]])
+misloads("code 0 ends the table", entries=lambda self: list(takewhile(lambda e: e[0] > 0, Model.entries(self))))
+misloads("the first entry not tested", tested=lambda self, found: found[1:])
+misloads("the last entry not tested", tested=lambda self, found: found[:-1])
+misloads("the first entry only tested", tested=lambda self, found: found[:1])
+misloads("every second entry tested", tested=lambda self, found: found[::2])
+for _n in (11, 64, 128, 254, 255):
+    misloads("%d entries tested" % _n, tested=lambda self, found, n=_n: found[:n])
+    if _n < 255:
+        misloads("more than %d entries refused by 15" % _n,
+                 tested=lambda self, found, n=_n: found if len(found) <= n else throw(15))
+misloads("more than 255 entries are 14", wrong_end=lambda self, at, n, size: at + n != size or n > 1020)
+misloads("2 entries asked", no_entry=lambda self, n: n < 8)
+
+
+# ---- what is looked up
+
+USES = ("judging", "reading", "writing")
+
+
+def mislooks(name, where=USES, /, **methods):
+    mistables(where, name, **methods)
+
+
+def found_or(other):
+    """Other wood for a code that the table lacks: other(self, code)."""
+    return lambda self, c: Model.look_up(self, c) or other(self, c)
+
+
+def nearest_code(pick, beyond):
+    """The wood of the nearest code on one side."""
+    def look_up(self, c):
+        some = [code for code in self.table if beyond(code, c)]
+        return self.table[pick(some)] if some else None
+    return look_up
+
+
+def printed_wood(self, c):
+    return (int(c in self.hardwood), self.density[c]) if c in self.density else None
+
+
+def no_wood_figures(self):
+    """Without density nothing is carried."""
+    return (99999999, 0, 10000) if 0 in (self.density_of(0), self.density_of(1)) else Model.figures(self)
+
+
+mislooks("a missing code taken for density 0", look_up=found_or(lambda self, c: (0, 0)), figures=no_wood_figures)
+mislooks("a missing code taken for C24", look_up=found_or(lambda self, c: (0, 350)))
+mislooks("a missing code taken for the first entry", look_up=found_or(lambda self, c: self.table[min(self.table)]))
+mislooks("a missing code taken for the last entry", look_up=found_or(lambda self, c: self.table[max(self.table)]))
+mislooks("a missing code taken for the next lower one", look_up=nearest_code(max, lambda code, c: code <= c))
+mislooks("a missing code taken for the next higher one", look_up=nearest_code(min, lambda code, c: code >= c))
+mislooks("the printed class where the table lacks the code", look_up=found_or(printed_wood))
+mislooks("the printed table used", kept=lambda self: None)
+mislooks("the printed table where it has the code", look_up=lambda self, c: printed_wood(self, c) or Model.look_up(self, c))
+mislooks("the printed table for 11 entries", kept=lambda self: None if len(self.entries()) == 11 else Model.kept(self))
+mislooks("codes above 11 refused", look_up=lambda self, c: Model.look_up(self, c) if c <= 11 else None)
+mislooks("codes 9 to 11 refused", look_up=lambda self, c: None if 9 <= c <= 11 else Model.look_up(self, c))
+mislooks("codes from 128 refused", look_up=lambda self, c: Model.look_up(self, c) if c < 128 else None)
+mislooks("code 255 refused", look_up=lambda self, c: Model.look_up(self, c) if c < 255 else None)
+mislooks("code 1 refused", look_up=lambda self, c: Model.look_up(self, c) if c != 1 else None)
+mislooks("class 0 accepted", look_up=lambda self, c: (0, 350) if c == 0 else Model.look_up(self, c))
+mislooks("code in 7 bits", look_up=lambda self, c: Model.look_up(self, c & 127))
+for _m in (0, 1):
+    mislooks("class of member %d not tested" % (_m + 1), look_up=found_or(lambda self, c: (0, 350)),
+             known_class=lambda self, m, at=_m: Model.known_class(self, m) if self.table is None
+             else m == at or self.cls[m] in self.table)
+mislooks("entry by its place", look_up=lambda self, c: (lambda woods: woods[c - 1] if 0 < c <= len(woods) else None)(
+    list(self.table.values())))
+mislooks("entry by its place, from 0", look_up=lambda self, c: (lambda woods: woods[c] if 0 <= c < len(woods) else None)(
+    list(self.table.values())))
+for _name, _cut in (("the first entry not found", slice(1, None)), ("the last entry not found", slice(-1)),
+                    ("the first 11 entries only", slice(11)), ("the first 64 entries only", slice(64)),
+                    ("the first 128 entries only", slice(128)), ("the first 254 entries only", slice(254))):
+    mislooks(_name, kept=lambda self, cut=_cut: {code: wood for code, *wood in self.entries()[cut]})
+for _number in (6, 14, 15):
+    mislooks("a missing code is %d" % _number, known_class=lambda self, m, n=_number: Model.known_class(self, m) or throw(n))
+mislooks("class in 8 bits", ("writing",), look_up=lambda self, c: Model.look_up(self, c % 256))
+mislooks("class in 16 bits", ("writing",), look_up=lambda self, c: Model.look_up(self, c % 65536))
+mislooks("sign of the class lost", ("writing",), look_up=lambda self, c: Model.look_up(self, abs(c)))
+
+
+def remembering(what):
+    """A program that keeps something from call to call: what(memory, self)."""
+    memory = {}
+    return lambda self: what(memory, self)
+
+
+def or_last(memory, self):
+    """The table before, where this one does not load."""
+    try:
+        Model.test_table(self)
+        memory["table"] = self.table or memory.get("table")
+    except Refused:
+        if "table" not in memory:
+            raise
+        self.table = memory["table"]
+
+
+mislooks("the first table for ever", kept=remembering(lambda memory, self: memory.setdefault("table", Model.kept(self))))
+mislooks("tables kept by their length", kept=remembering(
+    lambda memory, self: memory.setdefault(len(self.handed), Model.kept(self))))
+mislooks("tables kept by their first entry", kept=remembering(
+    lambda memory, self: memory.setdefault(self.handed[:10], Model.kept(self))))
+mislooks("the table before where this one does not load", test_table=remembering(or_last))
+
+
+def placed(self):
+    """The classes as places in the table, for what is handed back or written."""
+    codes = sorted(self.table) if self.table else []
+    return [codes.index(c) + 1 if c in codes else c for c in self.cls]
+
+
+def with_places(entry):
+    def call(self, *what):
+        kept, self.cls = self.cls, placed(self)
+        out = entry(self, *what)
+        self.cls = kept
+        return out
+    return call
+
+
+mislooks("the place in the table handed back for the class", ("reading",), handed_back=with_places(Model.handed_back))
+mislooks("the place in the table written for the class", ("writing",), part=with_places(Model.part))
+
+
+# ---- what comes first, and what is left behind
+
+class AnyClass(Model):
+    """For a record's faults but those of its classes."""
+    def known_class(self, m):
+        return True
+
+
+def record_first(numbers):
+    """The record's refusals by these numbers come before the table's, for judging and for reading."""
+    def first(self, data):
+        try:
+            AnyClass().read(data)
+        except Refused as r:
+            if r.place[0] in numbers:
+                self.handed = None
+
+    def answer(self, data):
+        first(self, data)
+        return Model.answer(self, data)
+
+    def read_values(self, data, *lent):
+        first(self, data)
+        return Model.read_values(self, data, *lent)
+    return {"answer": answer, "read_values": read_values}
+
+
+mislooks("the record's fault before the table's", ("judging", "reading"), **record_first(range(1, 10)))
+mislooks("the record's layout before the table", ("judging", "reading"), **record_first(range(1, 7)))
+for _number in (1, 2, 3, 4, 5, 6, 7, 8, 9):
+    mislooks("the record's %d before the table" % _number, ("judging", "reading"), **record_first((_number,)))
+for _name, _order in (
+        ("2 before 14", "known table lists fields outlines force room"),
+        ("2 and 7 before 14", "known lists fields table outlines force room"),
+        ("lists of unequal length before 14", "lists table known fields outlines force room"),
+        ("13 before 14", "room table known lists fields outlines force"),
+        ("9 before 14", "force table known lists fields outlines room"),
+        ("8 before 14", "outlines table known lists fields force room"),
+        ("the table last", "known lists fields outlines force room table"),
+        ("the table not looked at", "known lists fields outlines force room")):
+    mislooks(_name, ("writing",), writer_tests=moved(_order))
+
+
+def table_number(table):
+    return Model().load(table) if table is not None else 0
+
+
+def table_before_slices(entry):
+    """A table that does not load is answered where another slice is too short."""
+    def call(self, *lent):
+        number, answer = table_number(self.handed), lent[5]
+        code = entry(self, *lent)
+        if code == 1 and number and len(answer) >= 2:
+            answer[:2] = [number, 0]
+            return 0
+        return code
+    return call
+
+
+for _what, _entry in (("reading", Model.read_values), ("writing", Model.write)):
+    mislooks("14 before a slice that is too short", (_what,), **{ENTRY[_what]: table_before_slices(_entry)})
+    mislooks("the table's number for the code", (_what,), **{
+        ENTRY[_what]: lambda self, *lent, entry=_entry: entry(self, *lent) or table_number(self.handed)})
+    mislooks("code 1 where the table does not load", (_what,), **{
+        ENTRY[_what]: lambda self, *lent, entry=_entry: int(entry(self, *lent) or table_number(self.handed) > 0)})
+for _which, _name in enumerate(("fields", "x", "y", "marks")):
+    mislooks("%s left as they were on 14 and 15" % _name, ("reading",), refuse_read=lambda self, n, *lent, k=_which: (
+        Model.refuse_read(self, n, *(list(z) if i == k and n > 13 else z for i, z in enumerate(lent)))))
+mislooks("number of dowels on 14 and 15", ("reading",), refuse_read=lambda self, n, *lent: (
+    Model.refuse_read(self, n, *lent), lent[4].__setitem__(1, int(n > 13)))[0])
+for _number in (14, 15):
+    mislooks("buffer changed on refusal %d" % _number, ("writing",), refuse_write=refusing(
+        lambda self, n, buffer, answer, k=_number: buffer.__setitem__(0, buffer[0] ^ 1) if n == k and buffer else None))
+    mislooks("length not 0 on refusal %d" % _number, ("writing",), refuse_write=refusing(
+        lambda self, n, buffer, answer, k=_number: answer.__setitem__(1, self.record_length()) if n == k else None))
+    mislooks("written for all that on refusal %d" % _number, ("writing",), refuse_write=refusing(
+        lambda self, n, buffer, answer, k=_number: n == k and len(buffer) >= self.record_length()
+        and Model.fill(self, buffer, Model.record(self))))
+    mislooks("a place on %d" % _number, ("judging",), print_refusal=lambda self, n, m, i, j, k=_number: (
+        Model.print_refusal(self, n, int(n == k) or m, i, j)))
+mislooks("7 for 14 and 15", test_table=renumbered({14: 7, 15: 7}))
+mislooks("1 for 14, 2 for 15", test_table=renumbered({14: 1, 15: 2}))
+mislooks("a zero report for 14 and 15", ("judging",), print_refusal=lambda self, n, m, i, j: (
+    "fits 0 0 0\n" if n > 13 else Model.print_refusal(self, n, m, i, j)))
+
+# ---- what is made of it
+
+
+def misgrades(name, /, **methods):
+    mistables(("judging",), name, **methods)
+
+
+def firms(hard):
+    """Another kind of wood with a table: hard(self, m, kind, density)."""
+    return lambda self, m: Model.is_hardwood(self, m) if self.table is None else hard(self, m, *self.look_up(self.cls[m]))
+
+
+def weighed(density):
+    """Another density with a table: density(self, m, density)."""
+    return lambda self, m: Model.density_of(self, m) if self.table is None else density(self, m, Model.density_of(self, m))
+
+
+misgrades("softwood's k90 for kind 1", is_hardwood=firms(lambda self, m, kind, density: False))
+misgrades("hardwood's k90 for kind 0", is_hardwood=firms(lambda self, m, kind, density: True))
+misgrades("kinds exchanged", is_hardwood=firms(lambda self, m, kind, density: kind == 0))
+misgrades("kind by the printed codes", is_hardwood=firms(lambda self, m, kind, density: self.cls[m] in self.hardwood))
+misgrades("kind hardwood for codes above 8", is_hardwood=firms(lambda self, m, kind, density: self.cls[m] > 8))
+misgrades("kind of the printed class where there is one", is_hardwood=firms(
+    lambda self, m, kind, density: self.cls[m] in self.hardwood if self.cls[m] in self.density else kind))
+misgrades("kind by the density, from 500", is_hardwood=firms(lambda self, m, kind, density: density >= 500))
+misgrades("kind by the density, from 530", is_hardwood=firms(lambda self, m, kind, density: density >= 530))
+misgrades("kind of member 1 for both", is_hardwood=lambda self, m: Model.is_hardwood(self, 0))
+misgrades("kind of member 2 for both", is_hardwood=lambda self, m: Model.is_hardwood(self, 1))
+misgrades("kinds of the members exchanged", is_hardwood=lambda self, m: Model.is_hardwood(self, 1 - m))
+misgrades("kind of the first entry for all", is_hardwood=firms(
+    lambda self, m, kind, density: self.table[min(self.table)][0] == 1))
+misgrades("density of member 1 for both", density_of=lambda self, m: Model.density_of(self, 0))
+misgrades("density of member 2 for both", density_of=lambda self, m: Model.density_of(self, 1))
+misgrades("densities of the members exchanged", density_of=lambda self, m: Model.density_of(self, 1 - m))
+misgrades("density of the printed class where there is one", density_of=weighed(
+    lambda self, m, density: self.density.get(self.cls[m], density)))
+misgrades("density of the first entry for all", density_of=weighed(lambda self, m, density: self.table[min(self.table)][1]))
+for _by, _what in ((-1, "before"), (1, "behind")):
+    misgrades("density of the entry %s" % _what, density_of=weighed(lambda self, m, density, by=_by: (
+        lambda codes: self.table[codes[(codes.index(self.cls[m]) + by) % len(codes)]][1])(sorted(self.table))))
+    misgrades("density by %d" % _by, density_of=weighed(lambda self, m, density, by=_by: density + by))
+misgrades("density at most 900", density_of=weighed(lambda self, m, density: min(900, density)))
+misgrades("density at most 1,099", density_of=weighed(lambda self, m, density: min(1099, density)))
+misgrades("density at least 350", density_of=weighed(lambda self, m, density: max(350, density)))
+misgrades("density at least 291", density_of=weighed(lambda self, m, density: max(291, density)))
+misgrades("density in whole fives", density_of=weighed(lambda self, m, density: density // 5 * 5))
+misgrades("density in 10 bits", density_of=weighed(lambda self, m, density: density & 1023 or 1))
+misgrades("density 350 for all", density_of=weighed(lambda self, m, density: 350))
+
+# within the brackets: only the printed table's answer without a table tells
+for _k, _what in enumerate(("use one higher", "capacity one lower", "share one lower")):
+    misgrades(_what + " with a table", print_answer=lambda self, *figures, k=_k: Model.print_answer(self, *(
+        z + (1, -1, -1)[i] * (i == k and self.table is not None) for i, z in enumerate(figures))))
+    misgrades(_what + " without a table", print_answer=lambda self, *figures, k=_k: Model.print_answer(self, *(
+        z + (1, -1, -1)[i] * (i == k and self.table is None) for i, z in enumerate(figures))))

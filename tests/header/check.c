@@ -1,4 +1,5 @@
-/* Calls negwishal_judge through include/negwishal.h and looks at every field; then the tests of the other entries.
+/* Calls the entries of include/negwishal.h: here judging, every field of it, then the tests of the others.  Those of the
+ * entries without a table are made once more with the printed table handed in as bytes.
  * check JOINT-B DOWELS-599 MEMBER-1-EDGE-719 */
 #include <inttypes.h>
 #include <stdio.h>
@@ -37,7 +38,7 @@ static uint32_t judged(const uint8_t *record, size_t n, uint64_t *report, size_t
 {
     for (size_t i = 0; i < ROOM; i++)
         report[i] = LEFT;
-    uint32_t result = negwishal_judge(record, n, report, length);
+    uint32_t result = judge_by(record, n, report, length);
     for (size_t i = length < NEGWISHAL_FIELDS ? 0 : NEGWISHAL_FIELDS; i < ROOM; i++)
         expect("a number that must stay", report[i], LEFT, LEFT);
     return result;
@@ -56,6 +57,20 @@ static void fields(const char *name, const uint64_t *r, const uint64_t low[8], c
     }
 }
 
+void judges(const char *what, const uint8_t *record, size_t n, const uint64_t low[8], const uint64_t high[8])
+{
+    uint64_t report[ROOM];
+    expect(what, judged(record, n, report, NEGWISHAL_FIELDS), 0, 0);
+    fields(what, report, low, high);
+}
+
+void short_judge(const uint8_t *record, size_t n)
+{
+    uint64_t report[ROOM];
+    for (size_t length = 0; length < NEGWISHAL_FIELDS; length++)
+        expect("a report too short", judged(record, n, report, length), 1, 1);
+}
+
 /* Joint B with eight dowels along x in wide outlines, written and judged: every second dowel off the line by 0, 1 and 119
  * tenths, upwards or downwards, is one row of eight; by 120, which is d, it is two rows of four. */
 static void check_rows(void)
@@ -65,7 +80,7 @@ static void check_rows(void)
     static const uint64_t high[2][8] = {{2, 0, 0, 0, 0, 10724, 7441, 6396}, {1, 0, 0, 0, 0, 8414, 7441, 8152}};
     struct values v = joint_b();
     uint8_t record[590];
-    uint64_t answer[ANSWER], report[ROOM];
+    uint64_t answer[ANSWER];
     v.fields[NEGWISHAL_AT_FX] = 50000;
     for (int at = NEGWISHAL_AT_X0_1; at <= NEGWISHAL_AT_X0_2; at += NEGWISHAL_AT_X0_2 - NEGWISHAL_AT_X0_1)
         for (int k = 0; k < 4; k++)
@@ -75,61 +90,59 @@ static void check_rows(void)
             v.x[i] = 600 * i;
             v.y[i] = i % 2 * off[k];
         }
-        negwishal_write(v.fields, VALUES, v.x, 8, v.y, 8, v.x, 0, record, sizeof record, answer, ANSWER);
+        write_by(v.fields, VALUES, v.x, 8, v.y, 8, v.x, 0, record, sizeof record, answer, ANSWER);
         expect("eight dowels, written", answer[NEGWISHAL_ANSWER_LENGTH], 142, 142);
-        expect("what eight dowels return", judged(record, 142, report, 8), 0, 0);
-        fields("eight dowels", report, low[k >= 5], high[k >= 5]);
+        judges("eight dowels", record, 142, low[k >= 5], high[k >= 5]);
     }
 }
 
-int main(int argc, char **argv)
+/* A file's bytes: joint B, dowels too close, an edge too near. */
+struct file {
+    uint8_t bytes[4096];
+    size_t length;
+};
+enum { JOINT_B, CLOSE, EDGE, FILES };
+
+static void check_names(void)
 {
-    static const uint64_t b_low[8] = {1, 0, 0, 0, 0, 7431, 7440, 7346};
-    static const uint64_t b_high[8] = {1, 0, 0, 0, 0, 7469, 7441, 7347};
-    static const uint64_t close[8] = {0, 10, 1, 1, 2, 0, 0, 0};
-    static const uint64_t edge[8] = {0, 12, 1, 3, 0, 0, 0, 0}; /* tells member and first dowel apart */
-    static const uint64_t empty[8] = {0, 1, 0, 0, 0, 0, 0, 0};
-    uint8_t b[4096], c[4096], e[4096], kept[4096];
-    uint64_t report[ROOM];
-
-    if (argc != 4)
-        return 2;
-    size_t nb = read_file(argv[1], b, sizeof b);
-    size_t nc = read_file(argv[2], c, sizeof c);
-    size_t ne = read_file(argv[3], e, sizeof e);
-    if (nb == 0 || nc == 0 || ne == 0)
-        return 2;
-    memcpy(kept, b, nb);
-
     expect("NEGWISHAL_FIELDS", NEGWISHAL_FIELDS, 8, 8);
     expect("NEGWISHAL_REFUSED", NEGWISHAL_REFUSED, 0, 0);
     expect("NEGWISHAL_FITS", NEGWISHAL_FITS, 1, 1);
     expect("NEGWISHAL_OVERLOADED", NEGWISHAL_OVERLOADED, 2, 2);
     expect("NEGWISHAL_JUDGED", NEGWISHAL_JUDGED, 0, 0);
     expect("NEGWISHAL_SHORT_REPORT", NEGWISHAL_SHORT_REPORT, 1, 1);
+}
+
+static void check_judge(const struct file file[FILES])
+{
+    static const uint64_t b_low[8] = {1, 0, 0, 0, 0, 7431, 7440, 7346};
+    static const uint64_t b_high[8] = {1, 0, 0, 0, 0, 7469, 7441, 7347};
+    static const uint64_t close[8] = {0, 10, 1, 1, 2, 0, 0, 0};
+    static const uint64_t edge[8] = {0, 12, 1, 3, 0, 0, 0, 0}; /* tells member and first dowel apart */
+    static const uint64_t empty[8] = {0, 1, 0, 0, 0, 0, 0, 0};
+    struct file b = file[JOINT_B];
+    const struct file *c = &file[CLOSE], *e = &file[EDGE];
+    uint64_t report[ROOM];
 
     for (size_t length = 0; length <= ROOM; length++) {
         uint32_t want = length < 8 ? 1 : 0;
-        expect("what joint B returns", judged(b, nb, report, length), want, want);
+        expect("what joint B returns", judged(b.bytes, b.length, report, length), want, want);
         if (want == 0)
             fields("joint B", report, b_low, b_high);
-        expect("what the refusal returns", judged(c, nc, report, length), want, want);
+        expect("what the refusal returns", judged(c->bytes, c->length, report, length), want, want);
         if (want == 0)
             fields("the refusal", report, close, close);
     }
-    expect("what the refused edge returns", judged(e, ne, report, 8), 0, 0);
-    fields("the refused edge", report, edge, edge);
-    expect("what no bytes return", judged(b, 0, report, 8), 0, 0);
-    fields("no bytes", report, empty, empty);
+    judges("the refused edge", e->bytes, e->length, edge, edge);
+    judges("no bytes", b.bytes, 0, empty, empty);
 
     /* joint B's fx stands in bytes 102 to 105: 27,000 N overload it */
     const uint64_t over_low[8] = {2, 0, 0, 0, 0, 10031, 7440, 7346};
     const uint64_t over_high[8] = {2, 0, 0, 0, 0, 10083, 7441, 7347};
-    expect("the record is only read", (uint64_t)(memcmp(kept, b, nb) != 0), 0, 0);
-    b[102] = 0x78;
-    b[103] = 0x69;
-    expect("what the overloaded joint returns", judged(b, nb, report, 8), 0, 0);
-    fields("the overloaded joint", report, over_low, over_high);
+    expect("the record is only read", (uint64_t)(memcmp(file[JOINT_B].bytes, b.bytes, b.length) != 0), 0, 0);
+    b.bytes[102] = 0x78;
+    b.bytes[103] = 0x69;
+    judges("the overloaded joint", b.bytes, b.length, over_low, over_high);
 
     /* the classes of members 1 and 2 stand in bytes 22 and 42 */
     static const uint8_t classes[11] = {NEGWISHAL_C24, NEGWISHAL_C30, NEGWISHAL_GL24H, NEGWISHAL_GL24C,
@@ -138,20 +151,39 @@ int main(int argc, char **argv)
     static const uint64_t unknown[8] = {0, 7, 0, 0, 0, 0, 0, 0};
     for (uint8_t k = 0; k < 11; k++) {
         expect("a class's code", classes[k], k + 1u, k + 1u);
-        b[22] = b[42] = classes[k];
-        expect("what a class returns", judged(b, nb, report, 8), 0, 0);
+        b.bytes[22] = b.bytes[42] = classes[k];
+        expect("what a class returns", judged(b.bytes, b.length, report, 8), 0, 0);
         expect("a class's refusal", report[NEGWISHAL_NUMBER], 0, 0);
     }
     for (int at = 22; at <= 42; at += 20) {
-        b[22] = b[42] = NEGWISHAL_D30;
-        b[at] = NEGWISHAL_D70 + 1;
-        expect("what an unknown class returns", judged(b, nb, report, 8), 0, 0);
-        fields("the unknown class", report, unknown, unknown);
+        b.bytes[22] = b.bytes[42] = NEGWISHAL_D30;
+        b.bytes[at] = NEGWISHAL_D70 + 1;
+        judges("the unknown class", b.bytes, b.length, unknown, unknown);
     }
+}
 
-    check_rows();
-    check_write(kept, nb);
-    check_read(kept, nb, c, nc);
+int main(int argc, char **argv)
+{
+    static const struct table *const tables[2] = {NULL, &PRINTED};
+    static struct file file[FILES];
+    if (argc != 1 + FILES)
+        return 2;
+    for (int k = 0; k < FILES; k++) {
+        file[k].length = read_file(argv[1 + k], file[k].bytes, sizeof file[k].bytes);
+        if (file[k].length == 0)
+            return 2;
+    }
+    const struct file *b = &file[JOINT_B], *c = &file[CLOSE];
+
+    check_names();
+    for (int k = 0; k < 2; k++) {
+        in_use = tables[k];
+        check_judge(file);
+        check_rows();
+        check_write(b->bytes, b->length);
+        check_read(b->bytes, b->length, c->bytes, c->length);
+    }
+    check_table(b->bytes, b->length);
 
     printf("header: %d tests, %d faults\n", tests, faults);
     return faults != 0;

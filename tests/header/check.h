@@ -1,4 +1,4 @@
-/* What the tests of the three entries share. */
+/* What the tests of the entries share. */
 #ifndef CHECK_H
 #define CHECK_H
 
@@ -17,15 +17,41 @@ struct values {
     size_t x_len, y_len;
 };
 
+/* A table's bytes: at most 255 entries of 4 behind 6 bytes, and some more. */
+struct table {
+    size_t length;
+    uint8_t bytes[6 + 4 * 255 + 8];
+};
+
+extern const struct table PRINTED;
+
+/* By which table the three entries below work; NULL: they are the entries without a table. */
+extern const struct table *in_use;
+uint32_t judge_by(const uint8_t *record, size_t record_len, uint64_t *report, size_t report_len);
+uint32_t write_by(const int32_t *fields, size_t fields_len, const int32_t *x, size_t x_len, const int32_t *y,
+                  size_t y_len, const int32_t *marks, size_t marks_len, uint8_t *buffer, size_t buffer_len,
+                  uint64_t *answer, size_t answer_len);
+uint32_t read_by(const uint8_t *record, size_t record_len, int32_t *fields, size_t fields_len, int32_t *x, size_t x_len,
+                 int32_t *y, size_t y_len, int32_t *marks, size_t marks_len, uint64_t *answer, size_t answer_len);
+
 void expect(const char *what, uint64_t got, uint64_t low, uint64_t high);
 struct values joint_b(void);
 struct values lattice(size_t n);
 /* Joint B's bytes with its parts in the order 4, 3, 2, 1. */
 size_t turned(const uint8_t *b, uint8_t *record);
 
-/* negwishal_read gives these values for these bytes. */
+/* Judging gives 0 and these fields for these bytes; too short a report gives 1. */
+void judges(const char *what, const uint8_t *record, size_t n, const uint64_t low[8], const uint64_t high[8]);
+void short_judge(const uint8_t *record, size_t n);
+/* Reading gives these values for these bytes, or this number and zeros; too short a slice gives 1. */
 void reads(const char *what, const uint8_t *record, size_t n, const struct values *v);
+void refuses(const char *what, const uint8_t *record, size_t n, uint64_t wanted);
+void short_read(const uint8_t *record, size_t n);
+/* Writing gives this number and, if it is 0, these bytes, where they are given; too short a slice gives 1. */
+void wrote(const char *what, const struct values *v, size_t room, uint64_t number, const uint8_t *bytes);
+void short_write(const struct values *v);
 
+void check_table(const uint8_t *b, size_t length);
 void check_write(const uint8_t *b, size_t length);
 void check_read(const uint8_t *b, size_t length, const uint8_t *close, size_t close_length);
 

@@ -1,4 +1,4 @@
-/* Calls negwishal_read and looks at every number that it is lent. */
+/* Calls the reader and looks at every number that it is lent. */
 #include <stdio.h>
 #include <string.h>
 
@@ -22,8 +22,8 @@ static uint32_t call(const char *what, const uint8_t *record, size_t n, const si
             l->of[k][i] = LEFT_32;
     for (int i = 0; i < ANSWER + MORE; i++)
         l->answer[i] = LEFT;
-    uint32_t code = negwishal_read(record, n, l->of[0], length[0], l->of[1], length[1], l->of[2], length[2], l->of[3],
-                                   length[3], l->answer, length[4]);
+    uint32_t code = read_by(record, n, l->of[0], length[0], l->of[1], length[1], l->of[2], length[2], l->of[3], length[3],
+                            l->answer, length[4]);
     for (int k = 0; k < LISTS; k++)
         for (size_t i = code == 0 ? NEEDED[k] : 0; i < POSITIONS + MORE; i++)
             expect(what, (uint64_t)l->of[k][i], LEFT_32, LEFT_32);
@@ -55,7 +55,7 @@ void reads(const char *what, const uint8_t *record, size_t n, const struct value
 }
 
 /* The number that comes, and zeros. */
-static void refuses(const char *what, const uint8_t *record, size_t n, uint64_t wanted)
+void refuses(const char *what, const uint8_t *record, size_t n, uint64_t wanted)
 {
     struct lists l;
     expect(what, call(what, record, n, NEEDED, &l), 0, 0);
@@ -66,19 +66,27 @@ static void refuses(const char *what, const uint8_t *record, size_t n, uint64_t 
             number(what, l.of[k][i], 0);
 }
 
-static void check_lengths(const uint8_t *b, size_t n)
+void short_read(const uint8_t *record, size_t n)
 {
     struct lists l;
     char what[60];
-    for (int k = 0; k <= LISTS; k++) {
+    for (int k = 0; k <= LISTS; k++)
         for (size_t short_of = 0; short_of < NEEDED[k]; short_of++) {
             size_t length[LISTS + 1];
             memcpy(length, NEEDED, sizeof length);
             length[k] = short_of;
             snprintf(what, sizeof what, "%zu numbers in slice %d", short_of, k);
-            expect(what, call(what, b, n, length, &l), 1, 1);
-            expect(what, call(what, b, 0, length, &l), 1, 1);
+            expect(what, call(what, record, n, length, &l), 1, 1);
         }
+}
+
+static void check_lengths(const uint8_t *b, size_t n)
+{
+    struct lists l;
+    char what[60];
+    short_read(b, n);
+    short_read(b, 0);
+    for (int k = 0; k <= LISTS; k++) {
         size_t length[LISTS + 1];
         memcpy(length, NEEDED, sizeof length);
         length[k] += MORE;
@@ -138,7 +146,7 @@ static void check_both_ways(const uint8_t *b)
         for (int k = 0; k < 5; k++)
             v.fields[no_field[k]] = INT32_MAX - k;
         expect("written",
-               negwishal_write(v.fields, VALUES, v.x, n, v.y, n, v.fields, 5, record, 600, answer, ANSWER), 0, 0);
+               write_by(v.fields, VALUES, v.x, n, v.y, n, v.fields, 5, record, 600, answer, ANSWER), 0, 0);
         expect("written", answer[0], 0, 0);
         for (int k = 0; k < 5; k++)
             v.fields[no_field[k]] = 0;
@@ -149,8 +157,8 @@ static void check_both_ways(const uint8_t *b)
     struct values v = joint_b();
     reads("parts turned round", record, n, &v);
     expect("parts turned round", call("parts turned round", record, n, NEEDED, &l), 0, 0);
-    expect("written again", negwishal_write(l.of[0], VALUES, l.of[1], l.answer[1], l.of[2], l.answer[1], l.of[3],
-                                            l.answer[1], again, n, answer, ANSWER), 0, 0);
+    expect("written again", write_by(l.of[0], VALUES, l.of[1], l.answer[1], l.of[2], l.answer[1], l.of[3], l.answer[1],
+                                     again, n, answer, ANSWER), 0, 0);
     expect("written again", answer[0], 0, 0);
     expect("written again", answer[1], n, n);
     expect("written again", memcmp(again, b, n) != 0, 0, 0);

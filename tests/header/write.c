@@ -1,4 +1,4 @@
-/* Calls negwishal_write and looks at every byte and number that it is lent. */
+/* Calls the writer and looks at every byte and number that it is lent. */
 #include <stdio.h>
 #include <string.h>
 
@@ -52,8 +52,8 @@ static uint32_t call(const char *what, const struct values *v, size_t fields_len
     memset(buffer, paint, ROOM);
     for (int i = 0; i < ANSWERS; i++)
         answer[i] = LEFT;
-    uint32_t code = negwishal_write(v->fields, fields_len, v->x, v->x_len, v->y, v->y_len, v->x, 0, buffer, room,
-                                    answer, answer_len);
+    uint32_t code = write_by(v->fields, fields_len, v->x, v->x_len, v->y, v->y_len, v->x, 0, buffer, room, answer,
+                             answer_len);
     size_t first = code == 0 ? (size_t)answer[1] : 0;
     for (size_t i = first < ROOM ? first : ROOM; i < ROOM; i++)
         expect(what, buffer[i], paint, paint);
@@ -64,7 +64,7 @@ static uint32_t call(const char *what, const struct values *v, size_t fields_len
 }
 
 /* The number and the length that come; with number 0 also the bytes, if they are given. */
-static void wrote(const char *what, const struct values *v, size_t room, uint64_t number, const uint8_t *bytes)
+void wrote(const char *what, const struct values *v, size_t room, uint64_t number, const uint8_t *bytes)
 {
     uint8_t buffer[ROOM];
     uint64_t answer[ANSWERS];
@@ -78,15 +78,22 @@ static void wrote(const char *what, const struct values *v, size_t room, uint64_
     }
 }
 
+void short_write(const struct values *v)
+{
+    uint8_t buffer[ROOM];
+    uint64_t answer[ANSWERS];
+    for (size_t n = 0; n < VALUES; n++)
+        expect("fields too short", call("fields too short", v, n, ROOM, ANSWER, 0xa5, buffer, answer), 1, 1);
+    for (size_t n = 0; n < ANSWER; n++)
+        expect("answer too short", call("answer too short", v, VALUES, ROOM, n, 0xa5, buffer, answer), 1, 1);
+}
+
 static void check_lengths(const uint8_t *b)
 {
     struct values v = joint_b();
     uint8_t buffer[ROOM];
     uint64_t answer[ANSWERS];
-    for (size_t n = 0; n < VALUES; n++)
-        expect("fields too short", call("fields too short", &v, n, ROOM, ANSWER, 0xa5, buffer, answer), 1, 1);
-    for (size_t n = 0; n < ANSWER; n++)
-        expect("answer too short", call("answer too short", &v, VALUES, ROOM, n, 0xa5, buffer, answer), 1, 1);
+    short_write(&v);
     for (size_t n = ANSWER; n <= ANSWERS; n++) {
         expect("a longer answer", call("a longer answer", &v, VALUES, ROOM, n, 0xa5, buffer, answer), 0, 0);
         expect("a longer answer", answer[0], 0, 0);
@@ -96,8 +103,7 @@ static void check_lengths(const uint8_t *b)
     expect("longer fields", memcmp(buffer, b, 110) != 0, 0, 0);
     /* a short answer or short fields come before any refusal */
     v.fields[NEGWISHAL_AT_VERSION] = 9;
-    expect("a refusal, fields too short", call("a refusal", &v, VALUES - 1, ROOM, ANSWER, 0xa5, buffer, answer), 1, 1);
-    expect("a refusal, answer too short", call("a refusal", &v, VALUES, ROOM, 1, 0xa5, buffer, answer), 1, 1);
+    short_write(&v);
 }
 
 static void check_buffers(const uint8_t *b)
@@ -267,12 +273,12 @@ static void check_lent(const uint8_t *b)
     const int32_t marks[3] = {7, INT32_MIN, INT32_MAX};
     for (size_t n = 0; n <= 3; n++) {
         memset(buffer, 0, sizeof buffer);
-        expect("marks", negwishal_write(v.fields, VALUES, v.x, 4, v.y, 4, marks, n, buffer, 110, answer, ANSWER), 0, 0);
+        expect("marks", write_by(v.fields, VALUES, v.x, 4, v.y, 4, marks, n, buffer, 110, answer, ANSWER), 0, 0);
         expect("marks", answer[0] + (memcmp(buffer, b, 110) != 0), 0, 0);
     }
     memset(buffer, 0, sizeof buffer);
     expect("fields for marks",
-           negwishal_write(v.fields, VALUES, v.x, 4, v.y, 4, v.fields, VALUES, buffer, 110, answer, ANSWER), 0, 0);
+           write_by(v.fields, VALUES, v.x, 4, v.y, 4, v.fields, VALUES, buffer, 110, answer, ANSWER), 0, 0);
     expect("fields for marks", answer[0] + (memcmp(buffer, b, 110) != 0), 0, 0);
     /* one array for x and y, and y one number later in it */
     for (int late = 0; late < 2; late++) {
@@ -280,9 +286,9 @@ static void check_lent(const uint8_t *b)
         memcpy(w.y, v.x + late, sizeof v.x - sizeof v.x[0]);
         uint8_t apart[110];
         memset(buffer, 0, sizeof buffer);
-        expect("y apart", negwishal_write(w.fields, VALUES, w.x, 4, w.y, 4, w.x, 0, apart, 110, answer, ANSWER), 0, 0);
+        expect("y apart", write_by(w.fields, VALUES, w.x, 4, w.y, 4, w.x, 0, apart, 110, answer, ANSWER), 0, 0);
         expect("x and y in one array",
-               negwishal_write(v.fields, VALUES, v.x, 4, v.x + late, 4, v.x, 4, buffer, 110, answer, ANSWER), 0, 0);
+               write_by(v.fields, VALUES, v.x, 4, v.x + late, 4, v.x, 4, buffer, 110, answer, ANSWER), 0, 0);
         expect("x and y in one array", answer[0] + (memcmp(buffer, apart, 110) != 0), 0, 0);
         expect("y from x", buffer[late ? 71 : 79], 0x58, 0x58); /* dowel 2's x is 600: 58 02 */
     }

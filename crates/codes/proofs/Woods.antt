@@ -11,7 +11,7 @@ use Rattle.std.specs.Prelude.{Option, Some, None}
 use Rattle.codes.specs.declared.Kind.{Kind}
 use Rattle.codes.specs.declared.Kind.TheVariants.{Softwood, Hardwood}
 use Rattle.codes.specs.declared.Wood.{Wood}
-use Rattle.codes.specs.Tables.{Line, lookup, printed_classes, class_of, is_known, is_class, wood_in, wood_of, k90_of}
+use Rattle.codes.specs.Tables.{Line, lookup, printed_classes, is_known, wood_in, k90_of}
 
 -- ---- a line's test: its code and its density
 unfoldable pub line_test : ℕ → Option Wood → Bool
@@ -57,17 +57,7 @@ pub printed_pass : lines_pass printed_classes ≡ true
 unfolding printed_classes lines_pass line_test
 printed_pass = refl
 
--- ---- the printed table
--- a class fits its byte
-pub class_byte : (code : ℕ) → is_class code ≡ true → code ≤ 255
-unfolding class_of
-class_byte code k = (passed_at printed_classes printed_pass code k).byte
-
-pub density_within :
-    (code : ℕ) → is_class code ≡ true → (290 ≤ (wood_of code).density) × ((wood_of code).density ≤ 1100)
-unfolding class_of
-density_within code k = let p = passed_at printed_classes printed_pass code k in (p.low, p.high)
-
+-- ---- k90
 pub k90_low : (k : Kind) (d : ℕ) → 6 ≤ d → 990 ≤ k90_of k d
 k90_low Softwood d h = omega arith
 k90_low Hardwood d h = omega arith

@@ -49,13 +49,10 @@ printed_classes =
 unfoldable pub class_of : ℕ → Option Wood
 class_of = lookup None printed_classes
 
--- whether it has the code
+-- whether a table has a code
 abbrev pub is_known : Option Wood → Bool
 is_known (Some w) = true
 is_known None = false
-
-abbrev pub is_class : ℕ → Bool
-is_class code = is_known (class_of code)
 
 -- the wood at a code; every class of an accepted record is known
 abbrev pub wood_in : Option Wood → Wood

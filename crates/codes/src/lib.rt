@@ -3,7 +3,7 @@
 #![tactic(auto)]
 
 ghost use Rattle.std.specs.Prelude.{◌≡◌};
-ghost use Rattle.codes.specs.Tables.{is_version, class_of, is_class, wood_of, steel_of, kmod_of, k90_of};
+ghost use Rattle.codes.specs.Tables.{is_version, class_of, wood_of, steel_of, kmod_of, k90_of};
 
 const VERSION: u16 = 1;
 
@@ -41,7 +41,7 @@ pub struct Wood {
 }
 
 // What stands for the wood of a class that the table lacks. By name, and no `Default`: that would offer it for a wood like any other.
-const NO_WOOD: Wood = Wood {
+pub const NO_WOOD: Wood = Wood {
     kind: Kind::Softwood,
     density: 0,
 };
@@ -68,14 +68,7 @@ pub fn class_of(class: u8) -> Option<Wood>
     Some(Wood { kind, density })
 }
 
-// Whether the table has the class.
-pub fn is_class(class: u8) -> bool
-    ensures { result ≡ is_class class }
-{
-    class_of(class).is_some()
-}
-
-// The wood of a class, with density 0 where the table lacks it.
+// The wood of a class of the printed table, with density 0 where it lacks the class.
 pub fn wood_of(class: u8) -> Wood
     ensures { result ≡ wood_of class }
 {

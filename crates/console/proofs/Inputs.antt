@@ -9,6 +9,8 @@ use lib.Dec.{eqb}
 use Rattle.joint.specs.Answer.{Report}
 use Rattle.joint.specs.Returned.{unanswered, report_of}
 use Rattle.joint.proofs.Claims.{judged}
+use Rattle.tables.proofs.Loading.{printed_right}
+use Rattle.tables.specs.Table.{printed}
 use Rattle.spacing.specs.Verdict.{fault}
 use Rattle.std.specs.Prelude.{Some, None, is_some}
 use Rattle.console.specs.Input.{Came, report_in, count_of, failed, unread, Bare, InputJudged, Said, line_when, Told, input_report, InputReported}
@@ -29,18 +31,18 @@ bare number r e =
 pub input_says : (buffer : List ℕ) (count : ℕ) (more : Bool) (r : Report) → r ≡ input_report buffer count more → InputJudged buffer count more r
 unfolding input_report
 input_says buffer count true r e = bare 4 r e
-input_says buffer count false r e = (judged e).claim
+input_says buffer count false r e = (judged printed_right e).claim
 
 -- which report is made, by whether more came
 pub input_long : (buffer : List ℕ) (count : ℕ) (more : Bool) (r : Report) → more ≡ true → r ≡ unanswered (fault 4 0 0 0)
     → r ≡ input_report buffer count more
 unfolding input_report
-input_long buffer count more r m e = e ∙ ap (λ (b : Bool). cond b (unanswered (fault 4 0 0 0)) (report_of (take count buffer))) (sym m)
+input_long buffer count more r m e = e ∙ ap (λ (b : Bool). cond b (unanswered (fault 4 0 0 0)) (report_of printed (take count buffer))) (sym m)
 
-pub input_judged : (buffer : List ℕ) (count : ℕ) (more : Bool) (r : Report) → more ≡ false → r ≡ report_of (take count buffer)
+pub input_judged : (buffer : List ℕ) (count : ℕ) (more : Bool) (r : Report) → more ≡ false → r ≡ report_of printed (take count buffer)
     → r ≡ input_report buffer count more
 unfolding input_report
-input_judged buffer count more r m e = e ∙ ap (λ (b : Bool). cond b (unanswered (fault 4 0 0 0)) (report_of (take count buffer))) (sym m)
+input_judged buffer count more r m e = e ∙ ap (λ (b : Bool). cond b (unanswered (fault 4 0 0 0)) (report_of printed (take count buffer))) (sym m)
 
 pub both : (buffer : List ℕ) (count : ℕ) (more : Bool) (r : Report) → r ≡ input_report buffer count more
     → InputReported buffer count more r

@@ -1,5 +1,6 @@
 -- Document 01, 'Printing': what the program makes of its input.
 use Rattle.std.specs.Prelude.{ℕ, ◌≤◌, ◌≡◌, Bool, true, false, cond, not, ◌||◌, List, [], take, eqb, Option, Some, None, is_none, unwrap_or}
+use Rattle.tables.specs.Table.{printed}
 use Rattle.joint.specs.Answer.{Report}
 use Rattle.joint.specs.Claim.{Judged, Unanswered}
 use Rattle.joint.specs.Returned.{unanswered, report_of}
@@ -39,7 +40,7 @@ pub record Bare (number : ℕ) (r : Report) : Type 0 where
 -- '(more prints as refusal 4, before any other test)': of the first `count` bytes of a buffer, and whether more came
 abbrev pub InputJudged : List ℕ → ℕ → Bool → Report → Type 0
 InputJudged buffer count true r = Bare 4 r
-InputJudged buffer count false r = Judged (take count buffer) r
+InputJudged buffer count false r = Judged printed (take count buffer) r
 
 abbrev pub Said : Bool → List ℕ → ℕ → Bool → Report → Type 0
 Said true buffer count more r = Bare 0 r
@@ -71,7 +72,7 @@ pub record Replied (buffer : List ℕ) (a : Reply) : Type 0 where
 
 -- ---- which report is made; nobody needs to believe this
 unfoldable pub input_report : List ℕ → ℕ → Bool → Report
-input_report buffer count more = cond more (unanswered (fault 4 0 0 0)) (report_of (take count buffer))
+input_report buffer count more = cond more (unanswered (fault 4 0 0 0)) (report_of printed (take count buffer))
 
 -- what the program's rule promises: the claim, and which report it makes
 pub record InputReported (buffer : List ℕ) (count : ℕ) (more : Bool) (r : Report) : Type 0 where

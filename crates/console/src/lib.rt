@@ -5,7 +5,7 @@ ghost use Rattle.joint.specs.Told.{told as told_of};
 ghost use Rattle.console.specs.Input.{InputReported, Told, Replied};
 
 use arrayvec::ArrayString;
-use joint::refusals::{Refusal, Rejection};
+use joint::refusals::{Refusal, Rejection, Unread};
 use joint::report::Judgement;
 use line::LONGEST;
 use std::io;
@@ -35,7 +35,7 @@ pub fn judge_input(buffer: &[u8], count: usize, more: bool) -> Judgement
     ensures { InputReported buffer.now count more (told_of result) }
 {
     if more {
-        return Judgement::Refused(Rejection::Record(Refusal::PairsAgainstRule));
+        return Judgement::Refused(Rejection::Unread(Unread::Record(Refusal::PairsAgainstRule)));
     }
     joint::judge(&buffer[..count.min(buffer.len())])
 }

@@ -4,6 +4,7 @@ use mathlib.Core.Path.{◌≡◌}
 use mathlib.Core.Bool.{true, false, not, and-eq-true_iff}
 use borrow.Author.Tests.{leb-true, not-false}
 use lib.Dec.{leb}
+use Rattle.tables.specs.Table.{Table}
 use Rattle.joint.specs.declared.Member.{Member}
 use Rattle.joint.specs.declared.Values.{Values}
 use Rattle.joint.specs.Refusal.{between, member_within, members_within, dowel_within, positions_within}
@@ -18,10 +19,10 @@ pub between_high : (low high n : ℕ) → between low high n ≡ true → n ≤ 
 between_high low high n h = leb-true n high ((and-eq-true_iff (leb low n) (leb n high)).0 h).1
 
 -- ---- the fields
-member_holds : (m : Member) → member_within m ≡ true → MemberHolds m
+member_holds : (t : Table) (m : Member) → member_within t m ≡ true → MemberHolds t m
 unfolding member_within
-member_holds m h = let p = simp and-eq-true_iff at h in search leb-true
+member_holds t m h = let p = simp and-eq-true_iff at h in search leb-true
 
-pub fields_hold : (v : Values) → not (fields_within v) ≡ false → FieldsHold v
+pub fields_hold : (t : Table) (v : Values) → not (fields_within t v) ≡ false → FieldsHold t v
 unfolding fields_within members_within dowel_within positions_within loads_within
-fields_hold v h = let p = simp and-eq-true_iff at (not-false (fields_within v) h) in search (member_holds, leb-true)
+fields_hold t v h = let p = simp and-eq-true_iff at (not-false (fields_within t v) h) in search (member_holds, leb-true)

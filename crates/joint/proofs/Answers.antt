@@ -23,6 +23,7 @@ use Rattle.group.proofs.Bracket.{share_bracket, share_top}
 use Rattle.group.proofs.Effective.{not_above_not_below, above_not_below, not_above_falls}
 use Rattle.group.proofs.Floor.{share_from}
 use Rattle.group.proofs.RowLaws.{row_some}
+use Rattle.tables.specs.Table.{Table}
 use Rattle.joint.specs.declared.Member.{Member}
 use Rattle.joint.specs.declared.Values.{Values}
 use Rattle.group.specs.declared.member.Taken.{Taken}
@@ -55,18 +56,18 @@ every_less : (row : ℕ → ℕ → Type 0) (d e f : ℕ) → f ≤ e → EveryR
 every_less row d e f h q n a1 is =
     not_above_falls d n a1 (share_over f n) (share_over e n) (lit< tt) (omega (arith, mul-le-mul_right n h)) (q n a1 is)
 
-module _ (v : Values) (p : Passed v) where
+module _ (t : Table) (v : Values) (p : Passed t v) where
   abbrev j : Design
-  j = design_of v
+  j = design_of t v
 
   abbrev d : Demand
-  d = demand_of v
+  d = demand_of t v
 
   abbrev R : Fraction → Type 0
   R = AtMostR j.plane
 
   pub plane : PlaneWithin j.plane
-  plane = plane_within v p.fields p.given.force
+  plane = plane_within t v p.fields p.given.force p.sound
 
   pub above : AboveR j.plane ((d.capacity + 2) over 1000)
   above = capacity_high j.plane plane
@@ -96,7 +97,7 @@ module _ (v : Values) (p : Passed v) where
 
   row_within : (k : Which) (m : Member) → ApartIn k m → RowWithin (of m)
   row_within k m a = record {
-    along_high = along_small v p.fields p.given.force m;
+    along_high = along_small t v p.fields p.given.force m;
     share_low =
         le_trans (lit≤ tt)
         (share_from (frame_of k (spaced m) v.loads.fx v.loads.fy) v.dowel.diameter (reach_of v.dowel.diameter) _ _
@@ -106,12 +107,12 @@ module _ (v : Values) (p : Passed v) where
 
   pub within : DemandWithin d
   within = record {
-    total_low = total_low v p.fields p.given.force;
-    total_high = total_small v p.fields p.given.force;
+    total_low = total_low t v p.fields p.given.force;
+    total_high = total_small t v p.fields p.given.force;
     row1 = row_within Member1 v.members.member1 apart.0;
     row2 = row_within Member2 v.members.member2 apart.1;
     check =
-        check_within v p.fields p.given.force d.capacity (capacity_floor j.plane plane)
+        check_within t v p.fields p.given.force d.capacity (capacity_floor j.plane plane)
         (at_most_meganewtons j.plane plane d.capacity (capacity_low j.plane plane));
   }
 
@@ -180,7 +181,7 @@ module _ (v : Values) (p : Passed v) where
           rw (min-eq_right l)
           (record { every = (every_less _ j.diameter _ _ l first.every, (second.every, tt)); some = inr (inl second.some) })
 
-  pub answers : Answered j (answered v)
+  pub answers : Answered j (answered t v)
   unfolding answered
   answers = record {
     capacity = record { low = newtons_low j.plane plane; high = newtons_high j.plane plane };

@@ -1,5 +1,7 @@
--- Laws of refusals 10 to 12: what values that passed 1 to 9 give to the spacing rules, and where a fault stands in the order.
+-- Laws of the order: a table's refusals before a record's; of refusals 10 to 12, what values that passed 1 to 9 give to the spacing rules, and
+-- where a fault stands.
 use Prim.Native.Nat.{ℕ, zero, suc, ◌+◌, ◌≤◌, ◌<◌, suc-le-suc}
+use native.Mathlib.Decide.{ℕ_discrete}
 use native.Mathlib.Omega.{arith}
 use mathlib.Core.Path.{◌≡◌, refl, sym, ap, ◌∙◌}
 use mathlib.Core.List.{List, [], ◌∷◌, ◌++◌, map}
@@ -17,19 +19,26 @@ use Rattle.spacing.specs.Verdict.{fault, fault_of, told as plan_told, or_else, p
 use Rattle.joint.specs.Layout.{values_of}
 use Rattle.joint.specs.Order.{holding, tests, position}
 use Rattle.numbers.specs.Numbers.{force}
-use Rattle.joint.specs.Refusal.{loads_within, fields_within, no_force, Test, test, script_tests, designer_tests, drill_tests, first_holding}
+use Rattle.joint.specs.Refusal.{loads_within, fields_within, no_force, script_tests, designer_tests, drill_tests, record_tests}
+use Rattle.tables.specs.declared.Refusal.{Refusal as TableRefusal}
+use Rattle.tables.specs.declared.Refusal.TheVariants.{OtherLayout, EntryOutside}
+use Rattle.tables.specs.Tests.{Test, test, first_holding, numbered}
+use Rattle.tables.specs.Table.{Table, table_number, Loaded, Right}
+use Rattle.tables.specs.Told.{told as table_told}
 use Rattle.joint.specs.Refusal.{fault10, fault11, fault12, is_fault, frame, alongs, acrosses, drill_fault}
-use Rattle.joint.specs.Refusal.{refusal_number, refusal_of, reading_of, outcome, outcome_of}
+use Rattle.joint.specs.Refusal.{refusal_number, refusal_of, zero_values, reading_of, outcome, outcome_of}
 use Rattle.joint.specs.declared.Values.{Values}
 use Rattle.joint.specs.Refusal.{value_tests}
 use Rattle.joint.specs.Answer.{Reading}
 use Rattle.joint.specs.declared.refusals.Refusal.{Refusal}
 use Rattle.joint.specs.declared.refusals.Refusal.TheVariants.{TooFewBytes, OtherVersion, OtherPairCount, PairsAgainstRule, KindsNotOnce, WrongLength, FieldOutside, EmptyOutline, NoForce}
+use Rattle.joint.specs.declared.refusals.Unread.{Unread}
+use Rattle.joint.specs.declared.refusals.Unread.TheVariants.{Table as TableUnread, Record}
 use Rattle.joint.specs.declared.refusals.Rejection.{Rejection}
-use Rattle.joint.specs.declared.refusals.Rejection.TheVariants.{Record, Plan}
-use Rattle.joint.specs.Told.{number_of, reading, fault_in, outcome_in}
+use Rattle.joint.specs.declared.refusals.Rejection.TheVariants.{Unread as NotRead, Plan}
+use Rattle.joint.specs.Told.{number_of, unread_number, reading, fault_in, outcome_in}
 use Rattle.joint.proofs.Accepted.{fields_hold}
-use Rattle.joint.proofs.Holding.{first_place, place_zero, place_kept, numbered, no_number, first_zero, first_kept, counts_from, by_place}
+use Rattle.joint.proofs.Holding.{first_place, place_zero, place_kept, no_number, first_zero, first_kept, both_zero, counts_from, by_place}
 
 -- ---- what 7 and 9 leave
 small_force : (z : ℤ) → force z ≡ true → nat_abs z ≤ 1000000
@@ -42,12 +51,12 @@ some_force zero zero h = let z : ◌≡◌ {A = ℕ} 0 1 = cc in absurd (omega a
 some_force zero (suc b) h = omega arith
 some_force (suc a) b h = omega arith
 
-pub given : (v : Values) → not (fields_within v) ≡ false → no_force v.loads ≡ false
+pub given : (t : Table) (v : Values) → not (fields_within t v) ≡ false → no_force v.loads ≡ false
     → Given v.dowel.diameter v.loads.fx v.loads.fy v.positions.n
 unfolding fields_within loads_within no_force
-given v h g =
-    let p = simp and-eq-true_iff at (not-false (fields_within v) h) in
-    let f = fields_hold v h in
+given t v h g =
+    let p = simp and-eq-true_iff at (not-false (fields_within t v) h) in
+    let f = fields_hold t v h in
     let s = some_force (nat_abs v.loads.fx) (nat_abs v.loads.fy) g in
     search small_force
 
@@ -177,28 +186,50 @@ unfolding Clean
 drill_none v h = drill_row v ∙ row_clean (drill_faults v) (rw drill_row at h)
 
 -- ---- the whole order
--- the tests of 1 to 9
-abbrev before10 : List ℕ → List Test
-before10 s = script_tests s ++ designer_tests s
+pub by_number : (t : Table) (s : List ℕ) → first_holding (record_tests t s) ≡ first_place 1 (holding (record_tests t s))
+unfolding counts_from
+by_number t s = by_place 1 (record_tests t s) refl
 
-pub by_number : (s : List ℕ) → refusal_number s ≡ first_place 1 (holding (before10 s))
-unfolding refusal_number counts_from
-by_number s = by_place 1 (before10 s) refl
+-- a table that did not load refuses the record, whatever it is
+pub table_first : (t : Table) (s : List ℕ) → (Loaded t → ⊥) → refusal_number t s ≡ table_number t
+unfolding refusal_number
+table_first t s f = first_kept t.tests (record_tests t s) f
 
-pub position_first : (s : List ℕ) → position (refusal_of s) ≡ first_place 1 (holding (tests s))
+pub not_loaded : (t : Table) (s : List ℕ) → (Loaded t → ⊥) → refusal_of t s ≡ fault (table_number t) 0 0 0
 unfolding refusal_of
-position_first s = of (eqb (refusal_number s) 0) refl
-  where
-    of : (b : Bool) → eqb (refusal_number s) 0 ≡ b → position (refusal_of s) ≡ first_place 1 (holding (tests s))
-    of true e =
-        simp e
-        (drill_position s
-        ∙ sym
-        (place_zero 0 10 (holding (before10 s)) (holding (drill_tests s)) (sym (by_number s) ∙ eqb-true _ _ e) refl))
-    of false e =
-        simp e
-        (by_number s
-        ∙ sym (place_kept 0 (holding (before10 s)) (holding (drill_tests s)) (λ z. eqb-false _ _ e (by_number s ∙ z))))
+not_loaded t s f = let e = table_first t s f in simp (e, ne_eqb (table_number t) 0 f)
+
+pub not_read : (t : Table) (s : List ℕ) → (Loaded t → ⊥) → reading_of t s ≡ record { number = table_number t; values = zero_values }
+unfolding reading_of
+not_read t s f = let e = table_first t s f in simp (e, ne_eqb (table_number t) 0 f)
+
+-- by a table that loads, the record's own tests decide
+module _ (t : Table) (r : Right t) where
+  pub unrefused : (s : List ℕ) → refusal_number t s ≡ 0 → Loaded t × (first_holding (record_tests t s) ≡ 0)
+  unfolding refusal_number
+  unrefused s h = both_zero t.tests (record_tests t s) r.no_zero h
+
+  pub number_of_record : Loaded t → (s : List ℕ) → refusal_number t s ≡ first_holding (record_tests t s)
+  unfolding refusal_number
+  number_of_record l s = first_zero t.tests (record_tests t s) r.no_zero l
+
+  pub position_first : Loaded t → (s : List ℕ) → position (refusal_of t s) ≡ first_place 1 (holding (tests t s))
+  unfolding refusal_of
+  position_first l s = of (eqb (refusal_number t s) 0) refl
+    where
+      is_place : refusal_number t s ≡ first_place 1 (holding (record_tests t s))
+      is_place = number_of_record l s ∙ by_number t s
+
+      of : (b : Bool) → eqb (refusal_number t s) 0 ≡ b → position (refusal_of t s) ≡ first_place 1 (holding (tests t s))
+      of true e =
+          simp e
+          (drill_position s
+          ∙ sym
+          (place_zero 0 10 (holding (record_tests t s)) (holding (drill_tests s)) (sym is_place ∙ eqb-true _ _ e) refl))
+      of false e =
+          simp e
+          (is_place
+          ∙ sym (place_kept 0 (holding (record_tests t s)) (holding (drill_tests s)) (λ z. eqb-false _ _ e (is_place ∙ z))))
 
 -- the first fault of a row gives its number
 Numbered : List ℕ → List Fault → Type 0
@@ -254,19 +285,29 @@ drill_number s =
     ∙ row_number (10 ∷ 11 ∷ 12 ∷ 10 ∷ 11 ∷ 12 ∷ []) (drill_faults v)
     (numbered10 1 v, (numbered11 1 v, (numbered12 1 v, (numbered10 2 v, (numbered11 2 v, (numbered12 2 v, tt))))))
 
--- of all tests the first that holds gives its number
-pub number_first : (s : List ℕ) → (refusal_of s).number ≡ first_holding (tests s)
-unfolding refusal_of refusal_number numbered
-number_first s = of (eqb (refusal_number s) 0) refl
-  where
-    of : (b : Bool) → eqb (refusal_number s) 0 ≡ b → (refusal_of s).number ≡ first_holding (tests s)
-    of true e = simp e (drill_number s ∙ sym (first_zero (before10 s) (drill_tests s) refl (eqb-true _ _ e)))
-    of false e = simp e (sym (first_kept (before10 s) (drill_tests s) (eqb-false _ _ e)))
+-- of all tests, the table's before the record's, the first that holds gives its number
+module _ (t : Table) (r : Right t) (s : List ℕ) where
+  record_first : Loaded t → (b : Bool) → eqb (refusal_number t s) 0 ≡ b → (refusal_of t s).number ≡ first_holding (tests t s)
+  unfolding refusal_of numbered
+  record_first l true e =
+      simp e
+      (drill_number s ∙ sym (first_zero (record_tests t s) (drill_tests s) refl (sym (number_of_record t r l s) ∙ eqb-true _ _ e)))
+  record_first l false e =
+      simp e
+      (number_of_record t r l s
+      ∙ sym (first_kept (record_tests t s) (drill_tests s) (λ z. eqb-false _ _ e (number_of_record t r l s ∙ z))))
 
-pub outcome_accepted : (s : List ℕ) (f : Fault) → f ≡ drill_fault (values_of s) → refusal_number s ≡ 0 → f.number ≡ 0
-    → record { number = 0; member = 0; first = 0; second = 0; values = values_of s } ≡ outcome_of s
+  pub number_first : (refusal_of t s).number ≡ first_holding (t.tests ++ tests t s)
+  number_first = go (ℕ_discrete (table_number t) 0)
+    where
+      go : Dec (Loaded t) → (refusal_of t s).number ≡ first_holding (t.tests ++ tests t s)
+      go (yes l) = record_first l (eqb (refusal_number t s) 0) refl ∙ sym (first_zero t.tests (tests t s) r.no_zero l)
+      go (no f) = ap (λ (z : Fault). z.number) (not_loaded t s f) ∙ sym (first_kept t.tests (tests t s) f)
+
+pub outcome_accepted : (t : Table) (s : List ℕ) (f : Fault) → f ≡ drill_fault (values_of s) → refusal_number t s ≡ 0 → f.number ≡ 0
+    → record { number = 0; member = 0; first = 0; second = 0; values = values_of s } ≡ outcome_of t s
 unfolding outcome_of outcome refusal_of
-outcome_accepted s f e h g = simp (h, drill_none (values_of s) (ap (λ (z : Fault). z.number) (sym e) ∙ g))
+outcome_accepted t s f e h g = simp (h, drill_none (values_of s) (ap (λ (z : Fault). z.number) (sym e) ∙ g))
 
 -- ---- no refusal has the number 0
 pub numbered_from_1 : (r : Refusal) → number_of r ≡ 0 → ⊥
@@ -280,46 +321,58 @@ numbered_from_1 FieldOutside h = omega arith
 numbered_from_1 EmptyOutline h = omega arith
 numbered_from_1 NoForce h = omega arith
 
+pub unread_from_1 : (r : Unread) → unread_number r ≡ 0 → ⊥
+unread_from_1 (TableUnread OtherLayout) h = omega arith
+unread_from_1 (TableUnread EntryOutside) h = omega arith
+unread_from_1 (Record r) h = numbered_from_1 r h
+
 pub rejected : (r : Rejection) → (fault_in r).number ≡ 0 → ⊥
-rejected (Record r) h = numbered_from_1 r h
+rejected (NotRead r) h = unread_from_1 r h
 rejected (Plan (DowelsTooClose m i j)) h = omega arith
 rejected (Plan (EndTooNear m i)) h = omega arith
 rejected (Plan (EdgeTooNear m i)) h = omega arith
 
 -- ---- what reading answers, by what its stages answered
-module _ (s : List ℕ) where
+module _ (t : Table) (s : List ℕ) where
   -- a refusal's number
-  unread : (r : Refusal) → number_of r ≡ refusal_number s → reading (Err r) ≡ reading_of s
+  unread : (r : Unread) → unread_number r ≡ refusal_number t s → reading (Err r) ≡ reading_of t s
   unfolding reading_of
-  unread r e = simp (← e, ne_eqb (number_of r) 0 (numbered_from_1 r))
+  unread r e = simp (← e, ne_eqb (unread_number r) 0 (unread_from_1 r))
 
-  pub refused_layout : (r : Refusal) → number_of r ≡ first_holding (script_tests s) → reading (Err r) ≡ reading_of s
-  unfolding refusal_number
-  refused_layout r e =
-      unread r (e ∙ sym (first_kept (script_tests s) (designer_tests s) (λ z. numbered_from_1 r (e ∙ z))))
+  pub refused_table : (r : TableRefusal) → table_told (Err r) ≡ table_number t → reading (Err (TableUnread r)) ≡ reading_of t s
+  refused_table r e = unread (TableUnread r) (e ∙ sym (table_first t s (λ l. unread_from_1 (TableUnread r) (e ∙ l))))
 
-  module _ (e : 0 ≡ first_holding (script_tests s)) {v : Values} (w : v ≡ values_of s) where
-    number_is : refusal_number s ≡ first_holding (value_tests v)
-    unfolding refusal_number numbered
-    number_is = rw w (first_zero (script_tests s) (designer_tests s) refl (sym e))
+  module _ (right : Right t) (loads : table_told (Ok tt) ≡ table_number t) where
+    pub refused_layout : (r : Refusal) → number_of r ≡ first_holding (script_tests s) → reading (Err (Record r)) ≡ reading_of t s
+    refused_layout r e =
+        unread (Record r)
+        (e
+        ∙ sym
+        (number_of_record t right (sym loads) s
+        ∙ first_kept (script_tests s) (designer_tests t s) (λ z. numbered_from_1 r (e ∙ z))))
 
-    pub refused_values : (r : Refusal) → number_of r ≡ first_holding (value_tests v) → reading (Err r) ≡ reading_of s
-    refused_values r g = unread r (g ∙ sym number_is)
+    module _ (e : 0 ≡ first_holding (script_tests s)) {v : Values} (w : v ≡ values_of s) where
+      number_is : refusal_number t s ≡ first_holding (value_tests t v)
+      unfolding numbered
+      number_is = number_of_record t right (sym loads) s ∙ rw w (first_zero (script_tests s) (designer_tests t s) refl (sym e))
 
-    pub read_whole : 0 ≡ first_holding (value_tests v) → reading (Ok v) ≡ reading_of s
-    unfolding reading_of
-    read_whole g = simp (number_is ∙ sym g, w)
+      pub refused_values : (r : Refusal) → number_of r ≡ first_holding (value_tests t v) → reading (Err (Record r)) ≡ reading_of t s
+      refused_values r g = unread (Record r) (g ∙ sym number_is)
+
+      pub read_whole : 0 ≡ first_holding (value_tests t v) → reading (Ok v) ≡ reading_of t s
+      unfolding reading_of
+      read_whole g = simp (number_is ∙ sym g, w)
 
 -- ---- the outcome, by what reading answered
-module _ (s : List ℕ) where
-  pub refused_reading : (r : Refusal) → reading (Err r) ≡ reading_of s → outcome_in (Err (Record r)) ≡ outcome_of s
+module _ (t : Table) (s : List ℕ) where
+  pub refused_reading : (r : Unread) → reading (Err r) ≡ reading_of t s → outcome_in (Err (NotRead r)) ≡ outcome_of t s
   unfolding reading_of outcome_of outcome refusal_of
   refused_reading r e =
-      let n : number_of r ≡ refusal_number s = ap (λ (z : Reading). z.number) e in
-      simp (← n, ne_eqb (number_of r) 0 (numbered_from_1 r))
+      let n : unread_number r ≡ refusal_number t s = ap (λ (z : Reading). z.number) e in
+      simp (← n, ne_eqb (unread_number r) 0 (unread_from_1 r))
 
-  module _ {v : Values} (e : reading (Ok v) ≡ reading_of s) where
-    none_numbered : refusal_number s ≡ 0
+  module _ {v : Values} (e : reading (Ok v) ≡ reading_of t s) where
+    none_numbered : refusal_number t s ≡ 0
     unfolding reading_of
     none_numbered = sym (ap (λ (z : Reading). z.number) e)
 
@@ -327,16 +380,16 @@ module _ (s : List ℕ) where
     unfolding reading_of
     values_are = ap (λ (z : Reading). z.values) e ∙ simp none_numbered
 
-    pub drill_given : Given v.dowel.diameter v.loads.fx v.loads.fy v.positions.n
-    unfolding refusal_number numbered
-    drill_given =
-        let n = no_number (before10 s) refl none_numbered in
-        rw values_are (given (values_of s) (n.none 6) (n.none 8))
+    pub drill_given : Right t → Given v.dowel.diameter v.loads.fx v.loads.fy v.positions.n
+    unfolding numbered
+    drill_given right =
+        let n = no_number (record_tests t s) refl (unrefused t right s none_numbered).1 in
+        rw values_are (given t (values_of s) (n.none 6) (n.none 8))
 
-    pub refused_plan : (f : PlanFault) → plan_told (Err f) ≡ drill_fault v → outcome_in (Err (Plan f)) ≡ outcome_of s
+    pub refused_plan : (f : PlanFault) → plan_told (Err f) ≡ drill_fault v → outcome_in (Err (Plan f)) ≡ outcome_of t s
     unfolding outcome_of outcome refusal_of
     refused_plan f d = simp (none_numbered, ← values_are, ← d, ne_eqb (fault_of f).number 0 (rejected (Plan f)))
 
-    pub accepted : plan_told (Ok tt) ≡ drill_fault v → outcome_in (Ok v) ≡ outcome_of s
+    pub accepted : plan_told (Ok tt) ≡ drill_fault v → outcome_in (Ok v) ≡ outcome_of t s
     unfolding outcome_of outcome refusal_of
     accepted d = simp (none_numbered, ← values_are, ← d)

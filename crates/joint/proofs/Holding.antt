@@ -1,6 +1,7 @@
 -- The first test that holds: its number, where it stands, and back.
 use Prim.Native.Nat.{ℕ, zero, suc, ◌+◌, ◌≤◌, ◌<◌, suc-le-suc}
 use native.Mathlib.Nat.{not-suc-le-zero, le_of_suc-le-suc}
+use native.Mathlib.Decide.{ℕ_discrete}
 use native.Mathlib.Omega.{arith}
 use mathlib.Core.Path.{◌≡◌, refl, sym, ap, ◌∙◌}
 use mathlib.Core.List.{List, [], ◌∷◌, ◌++◌}
@@ -10,7 +11,7 @@ use lib.Dec.{ltb, eqb}
 use borrow.Author.Tests.{ltb-true, eqb-true}
 use lib.ListN.{length, get_or}
 use Rattle.joint.specs.Order.{FirstAt, NoneHolds, holding}
-use Rattle.joint.specs.Refusal.{Test, first_holding}
+use Rattle.tables.specs.Tests.{Test, first_holding, numbered}
 
 -- where the first test that holds stands, the first of all standing at k; 0 where none holds
 unfoldable pub first_place : ℕ → List Bool → ℕ
@@ -88,11 +89,6 @@ place_kept k (true ∷ xs) ys h = refl
 place_kept k (false ∷ xs) ys h = place_kept (suc k) xs ys h
 
 -- ---- the number of the first test that holds
--- no test has the number 0
-unfoldable pub numbered : List Test → Bool
-numbered [] = true
-numbered (t ∷ tests) = ltb 0 t.number && numbered tests
-
 -- t's number, where t holds
 module _ (t : Test) (l : List Test) where
   taken : t.holds ≡ true → first_holding (t ∷ l) ≡ t.number
@@ -138,6 +134,14 @@ first_kept (t ∷ xs) ys h = of t.holds refl (first_kept xs ys)
         → first_holding (t ∷ (xs ++ ys)) ≡ first_holding (t ∷ xs)
     of true e r = taken t (xs ++ ys) e ∙ sym (taken t xs e)
     of false e r = left t (xs ++ ys) e ∙ r (λ z. h (left t xs e ∙ z)) ∙ sym (left t xs e)
+
+-- none of two lists holds
+pub both_zero : (xs ys : List Test) → numbered xs ≡ true → first_holding (xs ++ ys) ≡ 0 → (first_holding xs ≡ 0) × (first_holding ys ≡ 0)
+both_zero xs ys n h = go (ℕ_discrete (first_holding xs) 0)
+  where
+    go : Dec (first_holding xs ≡ 0) → (first_holding xs ≡ 0) × (first_holding ys ≡ 0)
+    go (yes z) = (z, sym (first_zero xs ys n z) ∙ h)
+    go (no f) = absurd (f (sym (first_kept xs ys f) ∙ h))
 
 -- ---- where the numbers count up from k, a number is its test's place
 unfoldable pub counts_from : ℕ → List Test → Bool

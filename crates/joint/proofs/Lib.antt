@@ -13,4 +13,6 @@ pub mod EnoughLaws
 pub mod Answers
 pub mod Claims
 pub mod Meaning
+pub mod Alike
 pub mod Stars
+pub mod Graded

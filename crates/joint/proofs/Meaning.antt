@@ -6,6 +6,7 @@ use mathlib.Core.List.{List}
 use native.Mathlib.Omega.{arith}
 use lib.Dec.{leb}
 use borrow.Author.Tests.{leb-true, leb-false}
+use Rattle.tables.specs.Table.{Table, Right}
 use Rattle.joint.specs.Answer.{Report}
 use Rattle.joint.specs.Answer.{Verdict}
 use Rattle.joint.specs.Answer.Verdict.{Fits, Overloaded, Refused}
@@ -46,16 +47,16 @@ of_overloaded U = go (leb U 10000) refl
     go false h e = leb-false U 10000 h
 
 -- ---- the theorem
-pub means : (s : List ℕ) → Accepted s → (r : Report) → Judged s r → Means (design_of (values_of s)) r
-means s a r j =
+pub means : (t : Table) → Right t → (s : List ℕ) → Accepted t s → (r : Report) → Judged t s r → Means (design_of t (values_of s)) r
+means t k s a r j =
     let v = values_of s in
-    let p = accepted_passed s a in
+    let p = accepted_passed t k s a in
     let b = j.accepted a in
     record {
-      upward = enough_up (design_of v) (sound v p);
+      upward = enough_up (design_of t v) (sound t v p);
       some = b.usage.enough;
-      not_all = some_not (design_of v) (sound v p) (demand_of v).capacity (above v p) (within v p).total_low;
-      fits = λ e. fits_enough (design_of v) (sound v p) r.usage b.usage (of_fits r.usage (sym b.verdict ∙ e));
+      not_all = some_not (design_of t v) (sound t v p) (demand_of t v).capacity (above t v p) (within t v p).total_low;
+      fits = λ e. fits_enough (design_of t v) (sound t v p) r.usage b.usage (of_fits r.usage (sym b.verdict ∙ e));
       overloaded = λ e.
-          overloaded_not (design_of v) (sound v p) r.usage b.usage (of_overloaded r.usage (sym b.verdict ∙ e));
+          overloaded_not (design_of t v) (sound t v p) r.usage b.usage (of_overloaded r.usage (sym b.verdict ∙ e));
     }

@@ -16,9 +16,10 @@ use Rattle.codes.specs.Tables.{is_version}
 use Rattle.chain.specs.declared.Width.TheVariants.{Two}
 use Rattle.chain.specs.Chain.{number_at, offset_of, length_of, bound, chained, Read}
 use Rattle.chain.proofs.Laws.{filled_at, follow, inside}
+use Rattle.tables.specs.Tests.{first_holding, numbered}
 use Rattle.joint.specs.Layout.{version, pair_count, pair_offset, pair_length, pair_sum, part_of_pair, kind_of_pair, pair_of_kind, part_of_kind}
 use Rattle.joint.specs.Layout.{members_in, dowel_in, positions_in, loads_in, values_of}
-use Rattle.joint.specs.Refusal.{refusal1, refusal2, refusal3, refusal4, refusal5, refusal6, positions_length, one_if, once, first_holding, script_tests}
+use Rattle.joint.specs.Refusal.{refusal1, refusal2, refusal3, refusal4, refusal5, refusal6, positions_length, one_if, once, script_tests}
 use Rattle.joint.specs.Stage.{Parted, Bounded, present, part_at, found, parts_of, all_found, sized, Stretch, LaidOut}
 use Rattle.joint.specs.Told.{kind_code}
 use Rattle.joint.specs.declared.places.Kind.{Kind}
@@ -29,7 +30,7 @@ use Rattle.joint.specs.declared.Positions.{Positions}
 use Rattle.joint.specs.declared.Loads.{Loads}
 use Rattle.joint.specs.declared.layout.Part.{Part}
 use Rattle.joint.specs.declared.layout.Parts.{Parts}
-use Rattle.joint.proofs.Holding.{numbered, no_number}
+use Rattle.joint.proofs.Holding.{no_number}
 use Rattle.joint.proofs.Tests.{equal, unequal, lacking, having}
 
 -- ---- refusal 4: what a right chain says of its parts

@@ -12,7 +12,10 @@ use lib.ListN.{get_or, replicate}
 use Rattle.numbers.specs.Numbers.{twos_complement, i32_at, coordinate, force}
 use Rattle.strength.specs.Fraction.{Fraction, ◌over◌, whole, ◌↑◌, ◌≼◌}
 use Rattle.strength.specs.Shear.{AtMostR, bearing}
-use Rattle.codes.specs.Tables.{printed_classes, class_of, steel_of, kmod_of}
+use Rattle.codes.specs.Tables.{printed_classes, steel_of, kmod_of}
+use Rattle.tables.specs.Tests.{first_holding}
+use Rattle.tables.specs.Classes.{class_in}
+use Rattle.tables.specs.Table.{Table, printed}
 use Rattle.strength.proofs.Falling.{falls}
 use Rattle.spacing.specs.Verdict.{Fault}
 use Rattle.spacing.specs.Spacing.{place, along_enough, end_passes}
@@ -30,7 +33,7 @@ use Rattle.chain.specs.Chain.{number_at, bound, all_follow, chained}
 use Rattle.joint.specs.Layout.{part_of_pair, pair_of_kind, member_at, members_in, dowel_in, column, positions_in, loads_in, values_of}
 use Rattle.joint.specs.Refusal.{refusal1, refusal2, refusal3, refusal4, one_if, once, refusal5, positions_length, refusal6}
 use Rattle.joint.specs.Refusal.{outline_within, member_within, members_within, dowel_within, coordinates, positions_within, loads_within}
-use Rattle.joint.specs.Refusal.{fields_within, outline_empty, empty_outlines, no_force, first_holding, refusal_number, drill_fault, refusal_of}
+use Rattle.joint.specs.Refusal.{fields_within, outline_empty, empty_outlines, no_force, refusal_number, drill_fault, refusal_of}
 use Rattle.joint.specs.Design.{Design}
 use Rattle.joint.specs.DesignOf.{plane_in, plane_of, design_of}
 use Rattle.joint.specs.Use.{Above0, plane_force, row_force, Enough, CapacityBracket, ShareBracket, UseBracket, Answered}
@@ -41,10 +44,11 @@ use Rattle.joint.specs.Starred.Prints.{no_refusal}
 use Rattle.joint.proofs.EnoughLaws.{RowBy, enough_up, enough_by}
 use Rattle.joint.proofs.Answers.{plane, sound}
 use Rattle.joint.proofs.Claims.{accepted_passed, fits, overloaded}
+use Rattle.tables.proofs.Loading.{printed_right}
 use Rattle.joint.proofs.Meaning.{no_refusal_lem}
 
 -- ---- the table: the refusal of each star, and the values of those that are judged
-abbrev none : Fault
+abbrev pub none : Fault
 none = fault 0 0 0 0
 
 abbrev refusals : List Fault
@@ -52,15 +56,15 @@ refusals =
     none ∷ none ∷ none ∷ fault 10 1 1 2 ∷ fault 11 2 2 0 ∷ fault 12 1 3 0 ∷ none ∷ fault 7 0 0 0 ∷ none ∷ none
     ∷ fault 10 1 1 2 ∷ none ∷ none ∷ []
 
-refused_as : map (λ (s : Starred). refusal_of s.bytes) starred ≡ refusals
+refused_as : map (λ (s : Starred). refusal_of printed s.bytes) starred ≡ refusals
 unfolding refusal_of refusal_number first_holding refusal1 refusal2 refusal3 number_at bound all_follow chained refusal4 one_if once refusal5 positions_length
-    refusal6 coordinate force class_of printed_classes outline_within member_within members_within dowel_within coordinates positions_within
+    refusal6 coordinate force class_in printed_classes outline_within member_within members_within dowel_within coordinates positions_within
     loads_within fields_within outline_empty empty_outlines no_force drill_fault twos_complement i32_at part_of_pair pair_of_kind
     member_at members_in dowel_in column positions_in loads_in values_of pair_fault end_fault edge_fault verdict_in
     member_verdict spacing_verdict along_enough end_passes first_from partner first_pair
 refused_as = refl
 
-abbrev four_dowels : Positions
+abbrev pub four_dowels : Positions
 four_dowels = record {
   n = 4;
   x = pos 0 ∷ pos 600 ∷ pos 0 ∷ pos 600 ∷ replicate 60 (pos 0);
@@ -124,12 +128,12 @@ value_at :
     get_or (map (λ (i : ℕ). values_of (star i).bytes) judged_stars) k (kin 0 0 one_dowel) ≡ get_or judged_values k (kin 0 0 one_dowel)
 value_at k = ap (λ (l : List Values). get_or l k (kin 0 0 one_dowel)) values_as
 
-refusal_at : (k : ℕ) → get_or (map (λ (s : Starred). refusal_of s.bytes) starred) k none ≡ get_or refusals k none
+refusal_at : (k : ℕ) → get_or (map (λ (s : Starred). refusal_of printed s.bytes) starred) k none ≡ get_or refusals k none
 refusal_at k = ap (λ (l : List Fault). get_or l k none) refused_as
 
 -- ---- refused stars
-refused_row :
-    (bytes : List ℕ) (f : Fault) → refusal_of bytes ≡ f → (f.number ≡ 0 → ⊥) → (r : Report) → Judged bytes r →
+pub refused_row :
+    {t : Table} (bytes : List ℕ) (f : Fault) → refusal_of t bytes ≡ f → (f.number ≡ 0 → ⊥) → (r : Report) → Judged t bytes r →
     RefusedAs f.number f.member f.first f.second r
 refused_row bytes f e n r j = record {
   verdict = (j.refused (λ h. n (sym (ap (λ (g : Fault). g.number) e) ∙ h))).verdict;
@@ -143,19 +147,23 @@ refused_row bytes f e n r j = record {
 not_more : (a b : ℕ) → (b + 1 ≤ a → ⊥) → a ≤ b
 not_more a b f = omega (arith, lt_of_not-le f)
 
-module _ (class1 class2 fx fy t1 : ℕ) (places : Positions) (p : Passed (kin_of class1 class2 fx fy t1 places)) where
+-- c + 1 passes and c + 2 fails, so a capacity is c or one more
+pub capacity_two :
+    {t : Table} {v : Values} → Passed t v → (c C : ℕ) → AtMostR (design_of t v).plane (whole (c + 1)) →
+    (AtMostR (design_of t v).plane (whole (c + 2)) → ⊥) → CapacityBracket (design_of t v) C → Within c (c + 1) C
+capacity_two {t} {v} p c C passes fails b =
+    let j = (design_of t v).plane in
+    record {
+      from = not_more c C (λ h. b.high (falls j (plane t v p) (whole (c + 1)) (whole (C + 2)) (lit< tt) (omega arith) passes));
+      to = not_more C (c + 1) (λ h. fails (falls j (plane t v p) (whole C) (whole (c + 2)) (lit< tt) (omega arith) b.low));
+    }
+
+module _ (class1 class2 fx fy t1 : ℕ) (places : Positions) (p : Passed printed (kin_of class1 class2 fx fy t1 places)) where
   abbrev j : Design
-  j = design_of (kin_of class1 class2 fx fy t1 places)
+  j = design_of printed (kin_of class1 class2 fx fy t1 places)
 
   abbrev R : Fraction → Type 0
   R = AtMostR j.plane
-
-  -- c + 1 passes and c + 2 fails, so a capacity is c or one more
-  capacity_two : (c C : ℕ) → R (whole (c + 1)) → (R (whole (c + 2)) → ⊥) → CapacityBracket j C → Within c (c + 1) C
-  capacity_two c C passes fails b = record {
-    from = not_more c C (λ h. b.high (falls j.plane (plane _ p) (whole (c + 1)) (whole (C + 2)) (lit< tt) (omega arith) passes));
-    to = not_more C (c + 1) (λ h. fails (falls j.plane (plane _ p) (whole C) (whole (c + 2)) (lit< tt) (omega arith) b.low));
-  }
 
   -- u is enough, so the use is at most 10,050 u + 2; w is not, so it is above 10,000 w
   use_most : (u : Fraction) (U h : ℕ) → Enough j u → 10050 * u.num + 2 * u.den < (h + 1) * u.den → UseBracket j U → U ≤ h
@@ -165,7 +173,7 @@ module _ (class1 class2 fx fy t1 : ℕ) (places : Positions) (p : Passed (kin_of
   use_least : (w U : ℕ) → 0 < w → (Enough j (w over 10000) → ⊥) → UseBracket j U → w + 1 ≤ U
   use_least w U pw n b =
       not_more (w + 1) U
-      (λ h. n (enough_up j (sound _ p) (U over 10000) (w over 10000) (record { num = pw; den = lit< tt }) (omega arith) b.enough))
+      (λ h. n (enough_up j (sound printed _ p) (U over 10000) (w over 10000) (record { num = pw; den = lit< tt }) (omega arith) b.enough))
 
   -- all rows have n₀ dowels a₀ apart
   abbrev row : ℕ → ℕ → Type 0
@@ -200,9 +208,9 @@ module _ (class1 class2 fx fy t1 : ℕ) (places : Positions) (p : Passed (kin_of
     enough :
         (u e : Fraction) (g : ℕ) → Above0 u → Above0 e → NotAbove 12 n₀ a₀ e → R (plane_force (whole g) j.counted j.kmod u) →
         R (row_force fx n₀ e j.counted j.kmod u) → whole j.squared_force ≼ (whole g ↑ 2) → Enough j u
-    enough u e g pu pe na total one hF = enough_by j (sound _ p) u (whole g) pu (lit< tt) hF total (by, (by, tt))
+    enough u e g pu pe na total one hF = enough_by j (sound printed _ p) u (whole g) pu (lit< tt) hF total (by, (by, tt))
       where
-        by : (n a1 : ℕ) → row n a1 → RowBy j (sound _ p) u fx n a1
+        by : (n a1 : ℕ) → row n a1 → RowBy j (sound printed _ p) u fx n a1
         by n a1 r = record {
           e = e;
           above0 = pe;
@@ -272,19 +280,19 @@ one_some =
 
 -- ---- the theorem
 abbrev Holds : Starred → Type 0
-Holds s = (r : Report) → Judged s.bytes r → SaysSo s.prints r
+Holds s = (r : Report) → Judged printed s.bytes r → SaysSo s.prints r
 
 -- what the claim says of a judged star
-module _ (k : ℕ) (v : Values) (a : refusal_of (star k).bytes ≡ none) (e : values_of (star k).bytes ≡ v) where
-  passed : Passed v
-  passed = subst Passed e (accepted_passed (star k).bytes (ap (λ (f : Fault). f.number) a))
+module _ (k : ℕ) (v : Values) (a : refusal_of printed (star k).bytes ≡ none) (e : values_of (star k).bytes ≡ v) where
+  passed : Passed printed v
+  passed = subst (Passed printed) e (accepted_passed printed printed_right (star k).bytes (ap (λ (f : Fault). f.number) a))
 
-  answered_as : (r : Report) → Judged (star k).bytes r → Answered (design_of v) r
-  answered_as r j = subst (λ (w : Values). Answered (design_of w) r) e (j.accepted (ap (λ (f : Fault). f.number) a))
+  answered_as : (r : Report) → Judged printed (star k).bytes r → Answered (design_of printed v) r
+  answered_as r j = subst (λ (w : Values). Answered (design_of printed w) r) e (j.accepted (ap (λ (f : Fault). f.number) a))
 
 -- the tests at numerals: at most R, with fx and t1 for C24
 abbrev AtMostIn : Values → Fraction → Type 0
-AtMostIn v = AtMostR (plane_of v.members v.dowel v.loads)
+AtMostIn v = AtMostR (plane_of printed v.members v.dowel v.loads)
 
 abbrev AtMost : ℕ → ℕ → Fraction → Type 0
 AtMost fx t1 = AtMostIn (kin fx t1 one_dowel)
@@ -293,91 +301,91 @@ abbrev row_of2 : ℕ → Fraction → Fraction → Fraction
 row_of2 fx e v = row_force fx 2 e (whole 8) 80 v
 
 capacity_b : AtMost 20000 600 (whole 7441)
-unfolding plane_in bearing class_of printed_classes steel_of
+unfolding plane_in bearing class_in printed_classes steel_of
 capacity_b = record { first = lit≤ tt; second = record { within = lit≤ tt; square = lit≤ tt }; third = lit≤ tt }
 
 total_b : AtMost 20000 600 (plane_force (whole 20000) (whole 8) 80 (74305 over 100000))
-unfolding plane_in bearing class_of printed_classes steel_of
+unfolding plane_in bearing class_in printed_classes steel_of
 total_b = record { first = lit≤ tt; second = record { within = lit≤ tt; square = lit≤ tt }; third = lit≤ tt }
 
 rows_b : AtMost 20000 600 (row_of2 20000 below2 (74305 over 100000))
-unfolding plane_in bearing class_of printed_classes steel_of
+unfolding plane_in bearing class_in printed_classes steel_of
 rows_b = record { first = lit≤ tt; second = record { within = lit≤ tt; square = lit≤ tt }; third = lit≤ tt }
 
 above_b : (AtMost 20000 600 (whole 7442) → ⊥) × (AtMost 20000 600 (row_of2 20000 above2 (7430 over 10000)) → ⊥)
-unfolding plane_in bearing class_of printed_classes steel_of
+unfolding plane_in bearing class_in printed_classes steel_of
 above_b = (λ p. not-le_of_lt (lit< tt) p.first, λ p. not-le_of_lt (lit< tt) p.first)
 
 total_26700 : AtMost 26700 600 (plane_force (whole 26700) (whole 8) 80 (993 over 1000))
-unfolding plane_in bearing class_of printed_classes steel_of
+unfolding plane_in bearing class_in printed_classes steel_of
 total_26700 = record { first = lit≤ tt; second = record { within = lit≤ tt; square = lit≤ tt }; third = lit≤ tt }
 
 rows_26700 : AtMost 26700 600 (row_of2 26700 below2 (993 over 1000))
-unfolding plane_in bearing class_of printed_classes steel_of
+unfolding plane_in bearing class_in printed_classes steel_of
 rows_26700 = record { first = lit≤ tt; second = record { within = lit≤ tt; square = lit≤ tt }; third = lit≤ tt }
 
 above_27000 : AtMost 27000 600 (row_of2 27000 above2 (10000 over 10000)) → ⊥
-unfolding plane_in bearing class_of printed_classes steel_of
+unfolding plane_in bearing class_in printed_classes steel_of
 above_27000 p = not-le_of_lt (lit< tt) p.first
 
 capacity_200 : AtMost 20000 200 (whole 2510)
-unfolding plane_in bearing class_of printed_classes steel_of
+unfolding plane_in bearing class_in printed_classes steel_of
 capacity_200 = record { first = lit≤ tt; second = record { within = lit≤ tt; square = lit≤ tt }; third = lit≤ tt }
 
 above_200 : (AtMost 20000 200 (whole 2511) → ⊥) × (AtMost 20000 200 (row_of2 20000 above2 (10000 over 10000)) → ⊥)
-unfolding plane_in bearing class_of printed_classes steel_of
+unfolding plane_in bearing class_in printed_classes steel_of
 above_200 = (λ p. not-le_of_lt (lit< tt) p.second.square, λ p. not-le_of_lt (lit< tt) p.second.square)
 
 total_lone : AtMost 3000 600 (plane_force (whole 3000) (2 over 2) 80 (6552 over 10000))
-unfolding plane_in bearing class_of printed_classes steel_of
+unfolding plane_in bearing class_in printed_classes steel_of
 total_lone = record { first = lit≤ tt; second = record { within = lit≤ tt; square = lit≤ tt }; third = lit≤ tt }
 
 rows_lone : AtMost 3000 600 (row_force 3000 1 (whole 1) (2 over 2) 80 (6552 over 10000))
-unfolding plane_in bearing class_of printed_classes steel_of
+unfolding plane_in bearing class_in printed_classes steel_of
 rows_lone = record { first = lit≤ tt; second = record { within = lit≤ tt; square = lit≤ tt }; third = lit≤ tt }
 
 above_lone : AtMost 3000 600 (plane_force (whole 3000) (2 over 2) 80 (6551 over 10000)) → ⊥
-unfolding plane_in bearing class_of printed_classes steel_of
+unfolding plane_in bearing class_in printed_classes steel_of
 above_lone p = not-le_of_lt (lit< tt) p.first
 
 capacity_oak : AtMostIn oak (whole 8811)
-unfolding plane_in bearing class_of printed_classes steel_of
+unfolding plane_in bearing class_in printed_classes steel_of
 capacity_oak = record { first = lit≤ tt; second = record { within = lit≤ tt; square = lit≤ tt }; third = lit≤ tt }
 
 total_oak : AtMostIn oak (plane_force (whole 3000) (2 over 2) 80 (5533 over 10000))
-unfolding plane_in bearing class_of printed_classes steel_of
+unfolding plane_in bearing class_in printed_classes steel_of
 total_oak = record { first = lit≤ tt; second = record { within = lit≤ tt; square = lit≤ tt }; third = lit≤ tt }
 
 rows_oak : AtMostIn oak (row_force 0 1 (whole 1) (2 over 2) 80 (5533 over 10000))
-unfolding plane_in bearing class_of printed_classes steel_of
+unfolding plane_in bearing class_in printed_classes steel_of
 rows_oak = record { first = lit≤ tt; second = record { within = lit≤ tt; square = lit≤ tt }; third = lit≤ tt }
 
 above_oak : (AtMostIn oak (whole 8812) → ⊥) × (AtMostIn oak (plane_force (whole 3000) (2 over 2) 80 (5532 over 10000)) → ⊥)
-unfolding plane_in bearing class_of printed_classes steel_of
+unfolding plane_in bearing class_in printed_classes steel_of
 above_oak = (λ p. not-le_of_lt (lit< tt) p.first, λ p. not-le_of_lt (lit< tt) p.first)
 
 capacity_mixed : AtMostIn mixed (whole 6082)
-unfolding plane_in bearing class_of printed_classes steel_of
+unfolding plane_in bearing class_in printed_classes steel_of
 capacity_mixed = record { first = lit≤ tt; second = record { within = lit≤ tt; square = lit≤ tt }; third = lit≤ tt }
 
 above_mixed : (AtMostIn mixed (whole 6083) → ⊥) × (AtMostIn mixed (plane_force (whole 5000) (2 over 2) 80 (10000 over 10000)) → ⊥)
-unfolding plane_in bearing class_of printed_classes steel_of
+unfolding plane_in bearing class_in printed_classes steel_of
 above_mixed = (λ p. not-le_of_lt (lit< tt) p.second.square, λ p. not-le_of_lt (lit< tt) p.second.square)
 
 -- ---- four dowels with fx and t1: a v that is enough, and one that is not
 above0 : (n d : ℕ) → 0 < n → 0 < d → Above0 (n over d)
 above0 n d pn pd = record { num = pn; den = pd }
 
-module _ (fx t1 : ℕ) (p : Passed (kin fx t1 four_dowels)) where
+module _ (fx t1 : ℕ) (p : Passed printed (kin fx t1 four_dowels)) where
   four_enough :
       (u : Fraction) → Above0 u → AtMost fx t1 (plane_force (whole fx) (whole 8) 80 u) → AtMost fx t1 (row_of2 fx below2 u) →
-      whole (fx * fx + 0 * 0) ≼ (whole fx ↑ 2) → Enough (design_of (kin fx t1 four_dowels)) u
+      whole (fx * fx + 0 * 0) ≼ (whole fx ↑ 2) → Enough (design_of printed (kin fx t1 four_dowels)) u
   unfolding kmod_of
   four_enough u pu =
       enough 1 1 fx 0 t1 four_dowels p 2 600 four_some four_every u below2 fx pu (above0 _ _ (lit< tt) (lit< tt))
       (record { number = lit≤ tt; several = λ _. lit≤ tt })
 
-  four_not : (u : Fraction) → (AtMost fx t1 (row_of2 fx above2 u) → ⊥) → Enough (design_of (kin fx t1 four_dowels)) u → ⊥
+  four_not : (u : Fraction) → (AtMost fx t1 (row_of2 fx above2 u) → ⊥) → Enough (design_of printed (kin fx t1 four_dowels)) u → ⊥
   unfolding kmod_of
   four_not u =
       not_enough 1 1 fx 0 t1 four_dowels p 2 600 four_some four_every u above2 (above0 _ _ (lit< tt) (lit< tt))
@@ -393,7 +401,7 @@ star_b r j =
     record {
       verdict = h.verdict ∙ sym (fits r.usage (omega arith));
       usage = record { from = least; to = most };
-      capacity = capacity_two 1 1 20000 0 600 four_dowels p 7440 r.capacity capacity_b above_b.0 h.capacity;
+      capacity = capacity_two p 7440 r.capacity capacity_b above_b.0 h.capacity;
       share =
           share_two 1 1 20000 0 600 four_dowels p 2 600 four_some four_every 7346 r.share
           (record { number = lit≤ tt; several = λ _. lit≤ tt }) (λ q. not-le_of_lt (lit< tt) (q.several (lit< tt))) h.share;
@@ -420,7 +428,7 @@ star_200 r j =
     let n = four_not 20000 200 p (10000 over 10000) above_200.1 in
     record {
       verdict = h.verdict ∙ sym (overloaded r.usage (use_least 1 1 20000 0 200 four_dowels p 10000 r.usage (lit< tt) n h.usage));
-      capacity = capacity_two 1 1 20000 0 200 four_dowels p 2509 r.capacity capacity_200 above_200.0 h.capacity;
+      capacity = capacity_two p 2509 r.capacity capacity_200 above_200.0 h.capacity;
     }
 
 star_lone : Holds (star 8)
@@ -467,7 +475,7 @@ star_oak r j =
             (λ n. above_oak.1 (n.total (whole 3000) (lit< tt) (lit≤ tt))) h.usage;
         to = most;
       };
-      capacity = capacity_two 9 9 0 3000 600 one_dowel p 8810 r.capacity capacity_oak above_oak.0 h.capacity;
+      capacity = capacity_two p 8810 r.capacity capacity_oak above_oak.0 h.capacity;
       share =
           share_two 9 9 0 3000 600 one_dowel p 1 0 one_some one_every 9999 r.share
           (record { number = lit≤ tt; several = λ m. absurd (omega arith) }) (λ q. not-le_of_lt (lit< tt) q.number) h.share;
@@ -483,7 +491,7 @@ star_mixed r j =
     (λ n. above_mixed.1 (n.total (whole 5000) (lit< tt) (lit≤ tt))) h.usage in
     record {
       verdict = h.verdict ∙ sym (overloaded r.usage least);
-      capacity = capacity_two 1 9 3000 4000 600 one_dowel p 6081 r.capacity capacity_mixed above_mixed.0 h.capacity;
+      capacity = capacity_two p 6081 r.capacity capacity_mixed above_mixed.0 h.capacity;
     }
 
 pub stars : AllHold starred

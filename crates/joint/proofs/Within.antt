@@ -7,8 +7,10 @@ use native.Mathlib.Nat.{mul-le-mul, mul-pos}
 use borrow.Author.Tests.{eqb-true}
 use lib.Dec.{eqb}
 use lib.IntN.{nat_abs}
-use Rattle.codes.specs.Tables.{wood_of, steel_of, kmod_of, listed}
-use Rattle.codes.proofs.Woods.{density_within, k90_low, k90_high}
+use Rattle.codes.specs.Tables.{steel_of, kmod_of, listed}
+use Rattle.codes.proofs.Woods.{k90_low, k90_high}
+use Rattle.tables.specs.Classes.{Sound}
+use Rattle.tables.specs.Table.{Table, wood_of}
 use Rattle.strength.specs.Shear.{MemberWithin, PlaneWithin}
 use Rattle.spacing.specs.Spacing.{squared_force, Components}
 use Rattle.group.specs.Share.{all_to}
@@ -49,7 +51,7 @@ total_some zero zero h = absurd (omega arith)
 total_some zero (suc y) h = omega arith
 total_some (suc x) y h = omega arith
 
-module _ (v : Values) (f : FieldsHold v) (g : Components v.dowel.diameter v.loads.fx v.loads.fy) where
+module _ (t : Table) (v : Values) (f : FieldsHold t v) (g : Components v.dowel.diameter v.loads.fx v.loads.fy) where
   abbrev total : ℕ
   total = squared_force v.loads.fx v.loads.fy
 
@@ -74,13 +76,13 @@ module _ (v : Values) (f : FieldsHold v) (g : Components v.dowel.diameter v.load
       go false = omega arith
 
   -- ---- the plane
-  member_within_lem : (m : Member) → MemberHolds m → MemberWithin (plane_member v.dowel.diameter m (force_along v.loads m) total)
-  member_within_lem m h =
-      let density = density_within m.class h.class in
-      let kind = (wood_of m.class).kind in
+  member_within_lem : Sound t.classes → (m : Member) → MemberHolds t m
+      → MemberWithin (plane_member t v.dowel.diameter m (force_along v.loads m) total)
+  member_within_lem s m h =
+      let kind = (wood_of t m.class).kind in
       record {
-        density_low = density.0;
-        density_high = density.1;
+        density_low = s.density_low m.class h.class;
+        density_high = s.density_high m.class h.class;
         k90_low = k90_low kind v.dowel.diameter f.diameter_low;
         k90_high = k90_high kind v.dowel.diameter f.diameter_high;
         angle = along_part m;
@@ -90,18 +92,18 @@ module _ (v : Values) (f : FieldsHold v) (g : Components v.dowel.diameter v.load
         thickness_high = h.thickness_high;
       }
 
-  pub plane_within : PlaneWithin (plane_of v.members v.dowel v.loads)
+  pub plane_within : Sound t.classes → PlaneWithin (plane_of t v.members v.dowel v.loads)
   unfolding plane_in steel_test
-  plane_within =
-      let t = steel_tested v.dowel.steel f.steel_low f.steel_high in
+  plane_within s =
+      let k = steel_tested v.dowel.steel f.steel_low f.steel_high in
       record {
-        member1 = member_within_lem v.members.member1 f.member1;
-        member2 = member_within_lem v.members.member2 f.member2;
+        member1 = member_within_lem s v.members.member1 f.member1;
+        member2 = member_within_lem s v.members.member2 f.member2;
         dowel = record {
           diameter_low = f.diameter_low;
           diameter_high = f.diameter_high;
-          steel_low = between_low 300 800 (listed (steel_of v.dowel.steel)) t;
-          steel_high = between_high 300 800 (listed (steel_of v.dowel.steel)) t;
+          steel_low = between_low 300 800 (listed (steel_of v.dowel.steel)) k;
+          steel_high = between_high 300 800 (listed (steel_of v.dowel.steel)) k;
         };
         planes_low = f.planes_low;
         planes_high = f.planes_high;

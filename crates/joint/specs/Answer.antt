@@ -2,7 +2,7 @@
 use Rattle.std.specs.Prelude.{ℕ}
 use Rattle.joint.specs.declared.Values.{Values}
 
--- a refusal 1 to 9, and values that are all 0; or number 0 and the record's values
+-- a refusal 1 to 9, or the table's, and values that are all 0; or number 0 and the record's values
 pub record Reading : Type 0 where
   pub number : ℕ
   pub values : Values

@@ -1,7 +1,8 @@
 -- What the formulas take of a record's values: the one place where codes, tables and grain become numbers.
 use Rattle.std.specs.Prelude.{ℕ, ◌*◌, cond, [], ◌∷◌, eqb, nat_abs}
 use Rattle.strength.specs.Fraction.{Fraction, ◌over◌, whole}
-use Rattle.codes.specs.Tables.{wood_of, k90_of, steel_of, kmod_of, listed}
+use Rattle.codes.specs.Tables.{k90_of, steel_of, kmod_of, listed}
+use Rattle.tables.specs.Table.{Table, wood_of}
 use Rattle.strength.specs.declared.plane.Timber.{Timber}
 use Rattle.strength.specs.declared.plane.Plane.{Plane}
 use Rattle.spacing.specs.Spacing.{along, across, squared_force}
@@ -18,28 +19,29 @@ abbrev pub force_along : Loads → Member → ℕ
 force_along l m = nat_abs (along m.grain l.fx l.fy)
 
 -- ---- Strength of a shear plane
--- a member in a shear plane: the density of its class, k90 by the kind of its wood; cos²α is the squared component along over fx² + fy²
-abbrev pub plane_member : ℕ → Member → ℕ → ℕ → Timber
-plane_member d m c total = record {
-  density = (wood_of m.class).density;
-  k90 = k90_of (wood_of m.class).kind d;
+-- a member in a shear plane: the density that the table has at its class, k90 by the kind of its wood; cos²α is the squared component along
+-- over fx² + fy²
+abbrev pub plane_member : Table → ℕ → Member → ℕ → ℕ → Timber
+plane_member t d m c total = record {
+  density = (wood_of t m.class).density;
+  k90 = k90_of (wood_of t m.class).kind d;
   along = c * c;
   total = total;
   thickness = m.thickness;
 }
 
-unfoldable pub plane_in : Members → Dowel → ℕ → ℕ → ℕ → Plane
-plane_in m w total c1 c2 = record {
-  member1 = plane_member w.diameter m.member1 c1 total;
-  member2 = plane_member w.diameter m.member2 c2 total;
+unfoldable pub plane_in : Table → Members → Dowel → ℕ → ℕ → ℕ → Plane
+plane_in t m w total c1 c2 = record {
+  member1 = plane_member t w.diameter m.member1 c1 total;
+  member2 = plane_member t w.diameter m.member2 c2 total;
   diameter = w.diameter;
   steel = listed (steel_of w.steel);
   planes = m.planes;
 }
 
-abbrev pub plane_of : Members → Dowel → Loads → Plane
-plane_of m w l =
-    plane_in m w (squared_force l.fx l.fy) (force_along l m.member1) (force_along l m.member2)
+abbrev pub plane_of : Table → Members → Dowel → Loads → Plane
+plane_of t m w l =
+    plane_in t m w (squared_force l.fx l.fy) (force_along l m.member1) (force_along l m.member2)
 
 -- ---- Rows, share and use
 -- h, 'kmod in hundredths'
@@ -59,9 +61,9 @@ carrier_of v m = record {
       v.positions.n (reach_of v.dowel.diameter);
 }
 
-abbrev pub design_of : Values → Design
-design_of v = record {
-  plane = plane_of v.members v.dowel v.loads;
+abbrev pub design_of : Table → Values → Design
+design_of t v = record {
+  plane = plane_of t v.members v.dowel v.loads;
   diameter = v.dowel.diameter;
   squared_force = squared_force v.loads.fx v.loads.fy;
   counted = counted_planes v.positions.n v.members.planes;

@@ -1,12 +1,15 @@
 -- Document 01, 'Who causes which refusal': one test for each number, over the whole record, in 01's order. Those of 7 to 9 are tests of
--- its values, so that a writer can make them too; those of 10 to 12 are the rules of crate `spacing` at its values.
+-- its values, so that a writer can make them too; those of 10 to 12 are the rules of crate `spacing` at its values. A record is read by a
+-- table of classes, the printed one or a firm's own (02, A4), whose tests come before all others.
 use Rattle.std.specs.Prelude.{ℕ, zero, suc, ◌+◌, ◌*◌, List, [], ◌∷◌, ◌++◌, Bool, true, cond, not, ◌&&◌, ◌||◌, length, get_or, replicate, ℤ, pos, nat_abs, ltb, leb, eqb}
 use Rattle.std.specs.Int.Signed.{le_z}
 use Rattle.numbers.specs.Numbers.{coordinate, force}
 use Rattle.numbers.specs.Fields.{size, field}
-use Rattle.codes.specs.Tables.{is_version, is_class}
+use Rattle.codes.specs.Tables.{is_version}
 use Rattle.chain.specs.Chain.{chained}
 use Rattle.chain.specs.declared.Width.TheVariants.{Two}
+use Rattle.tables.specs.Tests.{Test, test, first_holding}
+use Rattle.tables.specs.Table.{Table, is_class}
 use Rattle.joint.specs.Layout.{members_front, member_fields, dowel_fields, positions_front, position_fields, loads_fields}
 use Rattle.joint.specs.Layout.{version, pair_count, kind_of_pair, part_of_kind, values_of}
 use Rattle.joint.specs.declared.Outline.{Outline}
@@ -83,14 +86,15 @@ between low high n = leb low n && leb n high
 unfoldable pub outline_within : Outline → Bool
 outline_within o = coordinate o.x0 && coordinate o.y0 && coordinate o.x1 && coordinate o.y1
 
--- 'class u8', which the table has (02, A1: it 'now runs to 11'); 'grain u8 (0 along x, 1 along y), thickness u16 from 200 to 4,000'
-unfoldable pub member_within : Member → Bool
-member_within m =
-    is_class m.class && between 0 1 m.grain && between 200 4000 m.thickness && outline_within m.outline
+-- 'class u8', which the table has (02, A1: the printed one's 'now runs to 11'; A4: 'a code it lacks is a 7'); 'grain u8 (0 along x, 1 along
+-- y), thickness u16 from 200 to 4,000'
+unfoldable pub member_within : Table → Member → Bool
+member_within t m =
+    is_class t m.class && between 0 1 m.grain && between 200 4000 m.thickness && outline_within m.outline
 
 -- 'shear planes p, 1 or 2'
-unfoldable pub members_within : Members → Bool
-members_within m = between 1 2 m.planes && member_within m.member1 && member_within m.member2
+unfoldable pub members_within : Table → Members → Bool
+members_within t m = between 1 2 m.planes && member_within t m.member1 && member_within t m.member2
 
 -- 'diameter d in whole mm, 6 to 30; steel 1, 2, 3'
 unfoldable pub dowel_within : Dowel → Bool
@@ -110,9 +114,9 @@ unfoldable pub loads_within : Loads → Bool
 loads_within l =
     between 1 3 l.service_class && between 1 5 l.duration && force l.fx && force l.fy
 
-unfoldable pub fields_within : Values → Bool
-fields_within v =
-    members_within v.members && dowel_within v.dowel && positions_within v.positions && loads_within v.loads
+unfoldable pub fields_within : Table → Values → Bool
+fields_within t v =
+    members_within t v.members && dowel_within v.dowel && positions_within v.positions && loads_within v.loads
 
 -- '8 an outline with x0 ≥ x1 or y0 ≥ y1'
 unfoldable pub outline_empty : Outline → Bool
@@ -172,38 +176,30 @@ abbrev pub refusal12 : ℕ → List ℕ → Bool
 refusal12 k s = is_fault (fault12 k (values_of s))
 
 -- ---- 'Order: 1 to 9 as numbered, each over the whole record. Then member 1 for 10, 11, 12, then member 2.'
--- a refusal's number, and whether its test holds
-pub record Test : Type 0 where
-  pub number : ℕ
-  pub holds : Bool
-
-abbrev pub test : ℕ → Bool → Test
-test k b = record { number = k; holds = b }
-
 abbrev pub script_tests : List ℕ → List Test
 script_tests s =
     test 1 (refusal1 s) ∷ test 2 (refusal2 s) ∷ test 3 (refusal3 s) ∷ test 4 (refusal4 s) ∷ test 5 (refusal5 s)
     ∷ test 6 (refusal6 s) ∷ []
 
 -- of values, whether a record has them or a writer is handed them
-abbrev pub value_tests : Values → List Test
-value_tests v = test 7 (not (fields_within v)) ∷ test 8 (empty_outlines v.members) ∷ test 9 (no_force v.loads) ∷ []
+abbrev pub value_tests : Table → Values → List Test
+value_tests t v = test 7 (not (fields_within t v)) ∷ test 8 (empty_outlines v.members) ∷ test 9 (no_force v.loads) ∷ []
 
-abbrev pub designer_tests : List ℕ → List Test
-designer_tests s = value_tests (values_of s)
+abbrev pub designer_tests : Table → List ℕ → List Test
+designer_tests t s = value_tests t (values_of s)
 
 abbrev pub drill_tests : List ℕ → List Test
 drill_tests s =
     test 10 (refusal10 1 s) ∷ test 11 (refusal11 1 s) ∷ test 12 (refusal12 1 s)
     ∷ test 10 (refusal10 2 s) ∷ test 11 (refusal11 2 s) ∷ test 12 (refusal12 2 s) ∷ []
 
--- the number of the first test that holds; 0 where none does
-unfoldable pub first_holding : List Test → ℕ
-first_holding [] = 0
-first_holding (t ∷ tests) = cond t.holds t.number (first_holding tests)
+-- a record's own tests 1 to 9
+abbrev pub record_tests : Table → List ℕ → List Test
+record_tests t s = script_tests s ++ designer_tests t s
 
-unfoldable pub refusal_number : List ℕ → ℕ
-refusal_number s = first_holding (script_tests s ++ designer_tests s)
+-- 02, A4: 'a record judged .. with a table that did not load gets the same refusal, before any test of its own'
+unfoldable pub refusal_number : Table → List ℕ → ℕ
+refusal_number t s = first_holding (t.tests ++ record_tests t s)
 
 -- the first fault of the drill plan, or all 0
 unfoldable pub drill_fault : Values → Fault
@@ -211,9 +207,9 @@ drill_fault v =
     spacing_verdict (spaced v.members.member1) (spaced v.members.member2) v.dowel.diameter v.loads.fx
     v.loads.fy v.positions.x v.positions.y v.positions.n
 
--- 'For 1 to 9 the place is 0, 0, 0.'
-unfoldable pub refusal_of : List ℕ → Fault
-refusal_of s = cond (eqb (refusal_number s) 0) (drill_fault (values_of s)) (fault (refusal_number s) 0 0 0)
+-- 'For 1 to 9 the place is 0, 0, 0'; for 14 and 15 too (02, A4)
+unfoldable pub refusal_of : Table → List ℕ → Fault
+refusal_of t s = cond (eqb (refusal_number t s) 0) (drill_fault (values_of s)) (fault (refusal_number t s) 0 0 0)
 
 -- ---- what reading answers: number 0 and the values, or the refusal and every value 0
 abbrev pub zero_outline : Outline
@@ -235,9 +231,9 @@ zero_values =
       loads = record { service_class = 0; duration = 0; fx = pos 0; fy = pos 0 };
     }
 
--- by refusals 1 to 9
-unfoldable pub reading_of : List ℕ → Reading
-reading_of s = record { number = refusal_number s; values = cond (eqb (refusal_number s) 0) (values_of s) zero_values }
+-- by the table's refusals and 1 to 9
+unfoldable pub reading_of : Table → List ℕ → Reading
+reading_of t s = record { number = refusal_number t s; values = cond (eqb (refusal_number t s) 0) (values_of s) zero_values }
 
 -- and by all, with the refusal's place
 unfoldable pub outcome : Fault → Values → Outcome
@@ -250,5 +246,5 @@ outcome f v =
       values = cond (eqb f.number 0) v zero_values;
     }
 
-unfoldable pub outcome_of : List ℕ → Outcome
-outcome_of s = outcome (refusal_of s) (values_of s)
+unfoldable pub outcome_of : Table → List ℕ → Outcome
+outcome_of t s = outcome (refusal_of t s) (values_of s)

@@ -1,6 +1,7 @@
 -- Nobody needs to believe this: the brackets are the claim. It says which use within its bracket is reported, and which report is made.
 use Rattle.std.specs.Prelude.{ℕ, ◌+◌, ◌*◌, ◌-◌, ◌/◌, ◌%◌, ◌≤◌, max, min, ◌≡◌, List, true, cond, eqb}
-use Rattle.codes.specs.Tables.{is_class}
+use Rattle.tables.specs.Classes.{Sound}
+use Rattle.tables.specs.Table.{Table, is_class}
 use Rattle.strength.specs.Working.{square_root_of, capacity_of}
 use Rattle.strength.specs.Shear.{PlaneWithin}
 use Rattle.spacing.specs.Verdict.{Fault}
@@ -92,28 +93,28 @@ taken_of m w l p = record {
 abbrev pub twice_planes : ℕ → ℕ → ℕ
 twice_planes n p = cond (eqb n 1) p (2 * (n * p))
 
-abbrev pub demand_in : Members → Dowel → Loads → ℕ → Both → Demand
-demand_in m w l n t = record {
+abbrev pub demand_in : Table → Members → Dowel → Loads → ℕ → Both → Demand
+demand_in t m w l n b = record {
   total = squared_force l.fx l.fy;
-  member1 = t.member1;
-  member2 = t.member2;
+  member1 = b.member1;
+  member2 = b.member2;
   planes2 = twice_planes n m.planes;
   kmod = kmod_in l;
-  capacity = capacity_of (plane_of m w l);
+  capacity = capacity_of (plane_of t m w l);
 }
 
-abbrev pub demand_of : Values → Demand
-demand_of v =
-    demand_in v.members v.dowel v.loads v.positions.n (taken_of v.members v.dowel v.loads v.positions)
+abbrev pub demand_of : Table → Values → Demand
+demand_of t v =
+    demand_in t v.members v.dowel v.loads v.positions.n (taken_of v.members v.dowel v.loads v.positions)
 
 -- the force along each member is the record's, and the plane is within the ranges of the capacity
-pub record PlaneGiven (m : Members) (w : Dowel) (l : Loads) (along1 along2 : ℕ) : Type 0 where
+pub record PlaneGiven (t : Table) (m : Members) (w : Dowel) (l : Loads) (along1 along2 : ℕ) : Type 0 where
   pub member1 : along1 ≡ force_along l m.member1
   pub member2 : along2 ≡ force_along l m.member2
   pub small1 : along1 ≤ 1000000
   pub small2 : along2 ≤ 1000000
   pub force : Components w.diameter l.fx l.fy
-  pub plane : PlaneWithin (plane_of m w l)
+  pub plane : PlaneWithin (plane_of t m w l)
 
 -- ---- which report
 abbrev pub report_with : Demand → ℕ → Report
@@ -128,8 +129,8 @@ report_with d share = record {
   share = share;
 }
 
-unfoldable pub answered : Values → Report
-answered v = report_with (demand_of v) (taken_of v.members v.dowel v.loads v.positions).share
+unfoldable pub answered : Table → Values → Report
+answered t v = report_with (demand_of t v) (taken_of v.members v.dowel v.loads v.positions).share
 
 unfoldable pub unanswered : Fault → Report
 unanswered f = record {
@@ -143,21 +144,21 @@ unanswered f = record {
   share = 0;
 }
 
--- the report on a record
-unfoldable pub report_of : List ℕ → Report
-report_of s = cond (eqb (refusal_of s).number 0) (answered (values_of s)) (unanswered (refusal_of s))
+-- the report on a record, read by a table
+unfoldable pub report_of : Table → List ℕ → Report
+report_of t s = cond (eqb (refusal_of t s).number 0) (answered t (values_of s)) (unanswered (refusal_of t s))
 
 -- ---- what the values of an accepted record are known to be, when their figures are worked out
-pub record MemberHolds (m : Member) : Type 0 where
-  pub class : is_class m.class ≡ true
+pub record MemberHolds (t : Table) (m : Member) : Type 0 where
+  pub class : is_class t m.class ≡ true
   pub thickness_low : 200 ≤ m.thickness
   pub thickness_high : m.thickness ≤ 4000
 
-pub record FieldsHold (v : Values) : Type 0 where
+pub record FieldsHold (t : Table) (v : Values) : Type 0 where
   pub planes_low : 1 ≤ v.members.planes
   pub planes_high : v.members.planes ≤ 2
-  pub member1 : MemberHolds v.members.member1
-  pub member2 : MemberHolds v.members.member2
+  pub member1 : MemberHolds t v.members.member1
+  pub member2 : MemberHolds t v.members.member2
   pub diameter_low : 6 ≤ v.dowel.diameter
   pub diameter_high : v.dowel.diameter ≤ 30
   pub steel_low : 1 ≤ v.dowel.steel
@@ -169,7 +170,8 @@ pub record FieldsHold (v : Values) : Type 0 where
   pub duration_low : 1 ≤ v.loads.duration
   pub duration_high : v.loads.duration ≤ 5
 
-pub record Passed (v : Values) : Type 0 where
-  pub fields : FieldsHold v
+pub record Passed (t : Table) (v : Values) : Type 0 where
+  pub sound : Sound t.classes
+  pub fields : FieldsHold t v
   pub given : Given v.dowel.diameter v.loads.fx v.loads.fy v.positions.n
   pub drill : (drill_fault v).number ≡ 0

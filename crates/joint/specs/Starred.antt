@@ -1,8 +1,10 @@
--- The starred joints of 01, 'Joints to try', with what 01 prints of each, and two of oak (02, A1), with what its formulas give.
+-- The starred joints of 01, 'Joints to try', with what 01 prints of each, and two of oak (02, A1), with what its formulas give, by the printed
+-- table; and joints by a firm's own table (A4).
 use Rattle.std.specs.Prelude.{ℕ, ◌≤◌, ◌≡◌, List, [], ◌∷◌, ◌++◌, set}
 use Rattle.joint.specs.Answer.{Verdict}
 use Rattle.joint.specs.Answer.Verdict.{Fits, Overloaded, Refused}
 use Rattle.joint.specs.Answer.{Report}
+use Rattle.tables.specs.Table.{printed, own_table}
 use Rattle.joint.specs.Claim.{Judged}
 
 -- Joint B: p = 2, C24 throughout, grain x, t1 600, t2 800; member 1 x -840 to 20,000, member 2 x -20,000 to 1,440, both y -360 to
@@ -51,11 +53,12 @@ pair_positions low high = 3 ∷ 2 ∷ 0 ∷ 0 ∷ 0 ∷ 0 ∷ 0 ∷ 0 ∷ 0 ∷ 
 abbrev pub pair_loads : List ℕ
 pair_loads = 4 ∷ 1 ∷ 3 ∷ 184 ∷ 11 ∷ 0 ∷ 0 ∷ 160 ∷ 15 ∷ 0 ∷ 0 ∷ []
 
--- what is printed: no refusal; a refusal with its place; or the verdict, with U, C and E from the first to the second of each pair
+-- what is printed: no refusal; a refusal with its place; or the verdict, with U, C and E from the first to the second of each pair; or C
 pub data Prints : Type 0 where
   no_refusal : Prints
   refused : ℕ → ℕ → ℕ → ℕ → Prints
   verdict : Verdict → Prints
+  carries : ℕ → ℕ → Prints
   overloaded_with : ℕ → ℕ → Prints
   lone_with : ℕ → ℕ → ℕ → ℕ → Prints
   fits_with : ℕ → ℕ → ℕ → ℕ → ℕ → ℕ → Prints
@@ -81,6 +84,10 @@ pub record FitsAs (uLow uHigh cLow cHigh eLow eHigh : ℕ) (r : Report) : Type 0
   pub capacity : Within cLow cHigh r.capacity
   pub share : Within eLow eHigh r.share
 
+pub record CarriesAs (cLow cHigh : ℕ) (r : Report) : Type 0 where
+  pub number : r.number ≡ 0
+  pub capacity : Within cLow cHigh r.capacity
+
 pub record OverloadedAs (cLow cHigh : ℕ) (r : Report) : Type 0 where
   pub verdict : r.verdict ≡ Overloaded
   pub capacity : Within cLow cHigh r.capacity
@@ -94,6 +101,7 @@ abbrev pub SaysSo : Prints → Report → Type 0
 SaysSo no_refusal r = PassesAs r
 SaysSo (refused n m i j) r = RefusedAs n m i j r
 SaysSo (verdict v) r = r.verdict ≡ v
+SaysSo (carries a b) r = CarriesAs a b r
 SaysSo (overloaded_with a b) r = OverloadedAs a b r
 SaysSo (lone_with a b c d) r = LoneAs a b c d r
 SaysSo (fits_with a b c d e f) r = FitsAs a b c d e f r
@@ -138,7 +146,57 @@ starred =
     ∷ record { bytes = record_of lone_header (set members_b 22 9) dowel_b lone_positions pair_loads; prints = overloaded_with 6081 6082 }
     ∷ []
 
--- every report for which the claim holds on a starred joint's bytes says what stands beside it
+-- every report for which the claim holds, at the printed table, on a starred joint's bytes says what stands beside it
 abbrev pub AllHold : List Starred → Type 0
 AllHold [] = Unit {0}
-AllHold (s ∷ ss) = ((r : Report) → Judged s.bytes r → SaysSo s.prints r) × AllHold ss
+AllHold (s ∷ ss) = ((r : Report) → Judged printed s.bytes r → SaysSo s.prints r) × AllHold ss
+
+-- ---- 02, A4: a joint by a firm's own table, which is handed in as bytes
+pub record Graded : Type 0 where
+  pub table : List ℕ
+  pub bytes : List ℕ
+  pub prints : Prints
+
+-- one entry of density 900: 1 pair, offset 6, length 4; code, kind, density
+abbrev pub one_class : ℕ → ℕ → List ℕ
+one_class code kind = 1 ∷ 0 ∷ 6 ∷ 0 ∷ 4 ∷ 0 ∷ code ∷ kind ∷ 132 ∷ 3 ∷ []
+
+-- the same entry twice
+abbrev pub twice : List ℕ
+twice = 1 ∷ 0 ∷ 6 ∷ 0 ∷ 8 ∷ 0 ∷ 1 ∷ 0 ∷ 132 ∷ 3 ∷ 1 ∷ 0 ∷ 132 ∷ 3 ∷ []
+
+-- joint B in outlines of ±90,000, with force (0, 20,000)
+abbrev pub outline_wide : List ℕ
+outline_wide = 112 ∷ 160 ∷ 254 ∷ 255 ∷ 112 ∷ 160 ∷ 254 ∷ 255 ∷ 144 ∷ 95 ∷ 1 ∷ 0 ∷ 144 ∷ 95 ∷ 1 ∷ 0 ∷ []
+
+abbrev pub members_wide : List ℕ
+members_wide = 1 ∷ 2 ∷ 1 ∷ 0 ∷ 88 ∷ 2 ∷ outline_wide ++ 1 ∷ 0 ∷ 32 ∷ 3 ∷ outline_wide
+
+abbrev pub loads_across : List ℕ
+loads_across = 4 ∷ 1 ∷ 3 ∷ 0 ∷ 0 ∷ 0 ∷ 0 ∷ 32 ∷ 78 ∷ 0 ∷ 0 ∷ []
+
+abbrev pub graded : List Graded
+graded =
+    -- class 1 as hardwood, and as softwood: the force is across the grain, where k90 counts
+    record {
+      table = one_class 1 1;
+      bytes = record_of header_b members_wide dowel_b positions_b loads_across;
+      prints = carries 11480 11481;
+    }
+    ∷ record {
+      table = one_class 1 0;
+      bytes = record_of header_b members_wide dowel_b positions_b loads_across;
+      prints = carries 9645 9646;
+    }
+    -- a table of class 200 alone: B with this class, and B
+    ∷ record { table = one_class 200 0; bytes = record_of header_b (set (set members_b 2 200) 22 200) dowel_b positions_b loads_b; prints = no_refusal }
+    ∷ record { table = one_class 200 0; bytes = joint_b; prints = refused 7 0 0 0 }
+    -- no bytes as a table; a code not above the one before, and no bytes as a record
+    ∷ record { table = []; bytes = joint_b; prints = refused 14 0 0 0 }
+    ∷ record { table = twice; bytes = []; prints = refused 15 0 0 0 }
+    ∷ []
+
+-- every report for which the claim holds, at the table, on the joint's bytes says what stands beside them
+abbrev pub AllGraded : List Graded → Type 0
+AllGraded [] = Unit {0}
+AllGraded (g ∷ gs) = ((r : Report) → Judged (own_table g.table) g.bytes r → SaysSo g.prints r) × AllGraded gs

@@ -7,14 +7,17 @@ use Rattle.joint.specs.declared.places.Kind.TheVariants.{Members, Dowel, Positio
 use Rattle.joint.specs.declared.Values.{Values}
 use Rattle.joint.specs.declared.refusals.Refusal.{Refusal}
 use Rattle.joint.specs.declared.refusals.Refusal.TheVariants.{TooFewBytes, OtherVersion, OtherPairCount, PairsAgainstRule, KindsNotOnce, WrongLength, FieldOutside, EmptyOutline, NoForce}
+use Rattle.joint.specs.declared.refusals.Unread.{Unread}
+use Rattle.joint.specs.declared.refusals.Unread.TheVariants.{Table, Record}
 use Rattle.joint.specs.declared.refusals.Rejection.{Rejection}
-use Rattle.joint.specs.declared.refusals.Rejection.TheVariants.{Record, Plan}
+use Rattle.joint.specs.declared.refusals.Rejection.TheVariants.{Unread as NotRead, Plan}
 use Rattle.joint.specs.declared.report.Figures.{Figures}
 use Rattle.joint.specs.declared.report.Judgement.{Judgement}
 use Rattle.joint.specs.declared.report.Judgement.TheVariants.{Fits, Overloaded, Refused}
 use Rattle.joint.specs.Answer.{Reading, Outcome, Report, Verdict}
 use Rattle.joint.specs.Answer.Verdict.{Fits as FitsVerdict, Overloaded as OverloadedVerdict}
 use Rattle.joint.specs.Refusal.{zero_values, outcome}
+use Rattle.tables.specs.Told.{number_of as table_number}
 use Rattle.joint.specs.declared.demand.Demand.{Demand as CodeDemand}
 use Rattle.joint.specs.Returned.{Demand, unanswered}
 
@@ -42,18 +45,23 @@ abbrev pub refusal_in : {A : Type 0} → Result A Refusal → ℕ
 refusal_in (Ok a) = 0
 refusal_in (Err r) = number_of r
 
-abbrev pub reading : Result Values Refusal → Reading
-reading (Ok v) = record { number = 0; values = v }
-reading (Err r) = record { number = number_of r; values = zero_values }
+-- the number of what keeps a record from being read: the table's, or the record's
+abbrev pub unread_number : Unread → ℕ
+unread_number (Table r) = table_number r
+unread_number (Record r) = number_of r
 
--- 'For 1 to 9 the place is 0, 0, 0.'
+abbrev pub reading : Result Values Unread → Reading
+reading (Ok v) = record { number = 0; values = v }
+reading (Err r) = record { number = unread_number r; values = zero_values }
+
+-- 'For 1 to 9 the place is 0, 0, 0', and for 14 and 15
 abbrev pub fault_in : Rejection → Fault
-fault_in (Record r) = fault (number_of r) 0 0 0
+fault_in (NotRead r) = fault (unread_number r) 0 0 0
 fault_in (Plan f) = fault_of f
 
 -- the fault in the drill plan, where it is one
 abbrev pub plan_fault : Rejection → Option PlanFault
-plan_fault (Record r) = None
+plan_fault (NotRead r) = None
 plan_fault (Plan f) = Some f
 
 abbrev pub outcome_in : Result Values Rejection → Outcome

@@ -1,7 +1,9 @@
 // The figures of an accepted record: capacity, row shares and use.
 ghost use Rattle.std.specs.Prelude.{◌≡◌, ◌≤◌};
 ghost use Rattle.strength.specs.Shear.{PlaneWithin};
+ghost use Rattle.spacing.specs.Spacing.{Given};
 ghost use Rattle.strength.specs.Working.{capacity_of};
+ghost use Rattle.tables.specs.Table.{table_of};
 ghost use Rattle.joint.specs.DesignOf.{plane_member, plane_in};
 ghost use Rattle.joint.specs.Told.{told, demand_told};
 ghost use Rattle.joint.specs.Returned.{
@@ -23,13 +25,15 @@ use group::member::Both;
 use spacing::force;
 use strength::capacity;
 use strength::plane::{Plane, Timber};
+use tables::Source;
 
 // A use of the whole capacity, in ten-thousandths.
 const WHOLE: u64 = 10000;
 
 // What the use takes of both members.
 fn taken_of(v: &Values) -> Both
-    requires { Passed v.now }
+    requires given { Given v.now.dowel.diameter v.now.loads.fx v.now.loads.fy v.now.positions.n }
+    requires some { (6 ≤ v.now.dowel.diameter) × (1 ≤ v.now.positions.n) }
     ensures { result ≡ taken_of v.now.members v.now.dowel v.now.loads v.now.positions }
 {
     member::both_taken(
@@ -40,11 +44,11 @@ fn taken_of(v: &Values) -> Both
 }
 
 // A member in the shear plane.
-fn plane_member(diameter: u8, m: &Member, along: u64, total: u64) -> Timber
+fn plane_member(table: Source, diameter: u8, m: &Member, along: u64, total: u64) -> Timber
     requires { along ≤ 1000000 }
-    ensures { result ≡ plane_member diameter m.now along total }
+    ensures { result ≡ plane_member (table_of table.entry) diameter m.now along total }
 {
-    let wood = codes::wood_of(m.class);
+    let wood = table.wood_of(m.class);
     Timber {
         density: wood.density,
         k90: wood.kind.k90(diameter),
@@ -55,15 +59,27 @@ fn plane_member(diameter: u8, m: &Member, along: u64, total: u64) -> Timber
 }
 
 // The capacity of a shear plane in thousandths of a newton.
-fn capacity_of(v: &Values, total: u64, taken: Both) -> u64
-    requires plane_within { PlaneWithin (plane_in v.now.members v.now.dowel total taken.member1.along taken.member2.along) }
+fn capacity_of(table: Source, v: &Values, total: u64, taken: Both) -> u64
+    requires plane_within { PlaneWithin (plane_in (table_of table) v.now.members v.now.dowel total taken.member1.along taken.member2.along) }
     requires along_small { (taken.member1.along ≤ 1000000) × (taken.member2.along ≤ 1000000) }
-    ensures { result ≡ capacity_of (plane_in v.now.members v.now.dowel total taken.member1.along taken.member2.along) }
+    ensures { result ≡ capacity_of (plane_in (table_of table.entry) v.now.members v.now.dowel total taken.member1.along taken.member2.along) }
 {
     let diameter = v.dowel.diameter;
     capacity::capacity_thousandths(Plane {
-        member1: plane_member(diameter, &v.members.member1, taken.member1.along, total),
-        member2: plane_member(diameter, &v.members.member2, taken.member2.along, total),
+        member1: plane_member(
+            table,
+            diameter,
+            &v.members.member1,
+            taken.member1.along,
+            total,
+        ),
+        member2: plane_member(
+            table,
+            diameter,
+            &v.members.member2,
+            taken.member2.along,
+            total,
+        ),
         diameter: diameter as u64,
         steel: codes::steel_strength(v.dowel.steel).unwrap_or(0),
         planes: v.members.planes as u64,
@@ -82,11 +98,11 @@ fn twice_planes(n: usize, planes: u8) -> u64
 }
 
 // What the use depends on.
-fn demand_of(v: &Values, taken: Both) -> Demand
-    requires plane { PlaneGiven v.now.members v.now.dowel v.now.loads taken.member1.along taken.member2.along }
+fn demand_of(table: Source, v: &Values, taken: Both) -> Demand
+    requires plane { PlaneGiven (table_of table) v.now.members v.now.dowel v.now.loads taken.member1.along taken.member2.along }
     requires most { v.now.positions.n ≤ 64 }
-    requires within { DemandWithin (demand_in v.now.members v.now.dowel v.now.loads v.now.positions.n taken) }
-    ensures { demand_told result ≡ demand_in v.now.members v.now.dowel v.now.loads v.now.positions.n taken }
+    requires within { DemandWithin (demand_in (table_of table) v.now.members v.now.dowel v.now.loads v.now.positions.n taken) }
+    ensures { demand_told result ≡ demand_in (table_of table.entry) v.now.members v.now.dowel v.now.loads v.now.positions.n taken }
 {
     let loads = v.loads;
     let total = force::squared_force(loads.fx, loads.fy);
@@ -96,7 +112,7 @@ fn demand_of(v: &Values, taken: Both) -> Demand
         member2: taken.member2,
         planes2: twice_planes(v.positions.n, v.members.planes),
         kmod: codes::kmod_hundredths(loads.service_class, loads.duration).unwrap_or(0),
-        capacity: capacity_of(v, total, taken),
+        capacity: capacity_of(table, v, total, taken),
     }
 }
 
@@ -117,11 +133,11 @@ fn judgement_of(d: Demand, share: u64) -> Judgement
     }
 }
 
-// What an accepted record is told.
-pub(crate) fn judgement(v: &Values) -> Judgement
-    requires { Passed v.now }
-    ensures { told result ≡ answered v.now }
+// What a record that is accepted by a table is told.
+pub(crate) fn judgement(table: Source, v: &Values) -> Judgement
+    requires { Passed (table_of table) v.now }
+    ensures { told result ≡ answered (table_of table.entry) v.now }
 {
     let taken = taken_of(v);
-    judgement_of(demand_of(v, taken), taken.share)
+    judgement_of(demand_of(table, v, taken), taken.share)
 }

@@ -1,7 +1,8 @@
 // The record's header, pairs, kinds and lengths: refusals 1 to 6.
 ghost use Rattle.std.specs.Prelude.{◌≡◌, ◌+◌, ◌≤◌, length, take, drop};
 ghost use Rattle.std.specs.Prelude.{IfOk};
-ghost use Rattle.joint.specs.Refusal.{positions_length, first_holding, script_tests};
+ghost use Rattle.tables.specs.Tests.{first_holding};
+ghost use Rattle.joint.specs.Refusal.{positions_length, script_tests};
 ghost use Rattle.joint.specs.Stage.{Bounded, found, all_found, sized, parts_of};
 ghost use Rattle.joint.specs.Told.{kind_code, refusal_in};
 

@@ -1,8 +1,10 @@
-// Joint records: one is read from bytes, or refused (01, 'The record' and 'Who causes which refusal').
+// Joint records: one is read from bytes, or refused (01, 'The record' and 'Who causes which refusal'), by the printed table of classes or by the
+// table that a call names (02, A4).
 #![tactic(auto)]
 
 ghost use Rattle.std.specs.Prelude.{◌≡◌};
-ghost use Rattle.joint.specs.Refusal.{reading_of, outcome_of};
+ghost use Rattle.tables.specs.Table.{printed, table_of};
+ghost use Rattle.joint.specs.Refusal.{zero_values, reading_of, outcome_of};
 ghost use Rattle.joint.specs.Told.{reading, outcome_in, told};
 ghost use Rattle.joint.specs.Claim.{Reported};
 
@@ -16,8 +18,9 @@ pub mod places;
 pub mod refusals;
 pub mod report;
 
-use crate::refusals::{Refusal, Rejection};
+use crate::refusals::{Rejection, Unread};
 use crate::report::Judgement;
+use tables::Source;
 
 // The most dowels that a record may have.
 pub const MOST_DOWELS: usize = 64;
@@ -83,37 +86,65 @@ pub struct Values {
     pub loads: Loads,
 }
 
-// Reads a record: the first of refusals 1 to 9 that applies, or the record's values. 01 names `let .. else` for each stage of reading.
-pub fn read(bytes: &[u8]) -> Result<Values, Refusal>
-    ensures { reading result ≡ reading_of bytes.now }
+// Values that are all 0, as they are before a record is read and where it is refused. Its promise says so as one value; a `Default` says it field
+// by field.
+pub fn nothing() -> Values
+    ensures { result ≡ zero_values }
 {
+    Values::default()
+}
+
+// Reads a record by a table: the table's refusal, the first of 1 to 9 that applies, or the record's values. 01 names `let .. else` for each stage
+// of reading.
+pub fn read_with(table: Source, bytes: &[u8]) -> Result<Values, Unread>
+    ensures { reading result ≡ reading_of (table_of table.entry) bytes.now }
+{
+    let loaded = table.load();
+    let Ok(()) = loaded else {
+        return Err(loaded.unwrap_err().into());
+    };
     let layout = layout::read_layout(bytes);
     let Ok(parts) = layout else {
-        return Err(layout.unwrap_err());
+        return Err(layout.unwrap_err().into());
     };
-    let values = parts::values_of(bytes, parts);
-    let limits = limits::check_values(&values);
+    let mut values = nothing();
+    parts::put_values(bytes, parts, &mut values);
+    let limits = limits::check_values(table, &values);
     let Ok(()) = limits else {
-        return Err(limits.unwrap_err());
+        return Err(limits.unwrap_err().into());
     };
     Ok(values)
 }
 
-// Reads a record and judges it by all twelve refusals: the first that applies, or the record's values.
-pub fn accept(bytes: &[u8]) -> Result<Values, Rejection>
-    ensures { outcome_in result ≡ outcome_of bytes.now }
+// Reads a record by the printed table.
+pub fn read(bytes: &[u8]) -> Result<Values, Unread>
+    ensures { reading result ≡ reading_of printed bytes.now }
 {
-    let values = read(bytes)?;
+    read_with(Source::Printed, bytes)
+}
+
+// Reads a record and judges it by all refusals, the table's, 1 to 9 and 10 to 12: the first that applies, or the record's values.
+pub fn accept(table: Source, bytes: &[u8]) -> Result<Values, Rejection>
+    ensures { outcome_in result ≡ outcome_of (table_of table.entry) bytes.now }
+{
+    let values = read_with(table, bytes)?;
     drill::check(&values, drill::plan_of(&values))?;
     Ok(values)
 }
 
-// Judges a record of any length: its refusal, or the verdict with the figures.
-pub fn judge(bytes: &[u8]) -> Judgement
-    ensures { Reported bytes.now (told result) }
+// Judges a record of any length by a table, which may be any bytes: the refusal, or the verdict with the figures.
+pub fn judge_with(table: Source, bytes: &[u8]) -> Judgement
+    ensures { Reported (table_of table.entry) bytes.now (told result) }
 {
-    match accept(bytes) {
-        Ok(values) => figures::judgement(&values),
+    match accept(table, bytes) {
+        Ok(values) => figures::judgement(table, &values),
         Err(rejection) => Judgement::Refused(rejection),
     }
+}
+
+// Judges a record of any length by the printed table.
+pub fn judge(bytes: &[u8]) -> Judgement
+    ensures { Reported printed bytes.now (told result) }
+{
+    judge_with(Source::Printed, bytes)
 }

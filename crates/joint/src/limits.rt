@@ -2,14 +2,16 @@
 ghost use Rattle.std.specs.Prelude.{◌≡◌};
 ghost use Rattle.std.specs.List.{list_all};
 ghost use Rattle.numbers.specs.Numbers.{coordinate};
-ghost use Rattle.joint.specs.Refusal.{between, member_within, positions_within, loads_within, outline_empty, no_force, first_holding};
+ghost use Rattle.tables.specs.Tests.{first_holding};
+ghost use Rattle.tables.specs.Table.{table_of};
+ghost use Rattle.joint.specs.Refusal.{between, member_within, positions_within, loads_within, outline_empty, no_force};
 ghost use Rattle.joint.specs.Refusal.{fields_within, value_tests};
 ghost use Rattle.joint.specs.Told.{refusal_in};
 
 use crate::refusals::Refusal;
 use crate::{Loads, MOST_DOWELS, Member, Outline, Positions, Values};
-use codes::is_class;
 use numbers::{is_coordinate, is_force};
+use tables::Source;
 
 // Codes of steel, service class and duration count from 1, the grain from 0.
 const FIRST_CODE: usize = 1;
@@ -47,11 +49,11 @@ fn is_between(low: usize, high: usize, n: usize) -> bool
 }
 
 #[tactic(auto, unfolding(crate::specs::Refusal::member_within, crate::specs::Refusal::outline_within))]
-fn member_within(m: &Member) -> bool
-    ensures { result ≡ member_within m.now }
+fn member_within(table: Source, m: &Member) -> bool
+    ensures { result ≡ member_within (table_of table.entry) m.now }
 {
     let o = m.outline;
-    is_class(m.class)
+    table.is_class(m.class)
         & is_between(ALONG_X, ALONG_Y, m.grain as usize)
         & is_between(LEAST_THICKNESS, MOST_THICKNESS, m.thickness as usize)
         & (is_coordinate(o.x0) & is_coordinate(o.y0) & is_coordinate(o.x1) & is_coordinate(o.y1))
@@ -94,14 +96,14 @@ fn no_force(l: Loads) -> bool
     l.fx == 0 && l.fy == 0
 }
 
-// Every limit of refusal 7.
+// Every limit of refusal 7: a class is one that the table has.
 #[tactic(auto, unfolding(crate::specs::Refusal::fields_within, crate::specs::Refusal::members_within, crate::specs::Refusal::dowel_within))]
-fn fields_within(v: &Values) -> bool
-    ensures { result ≡ fields_within v.now }
+fn fields_within(table: Source, v: &Values) -> bool
+    ensures { result ≡ fields_within (table_of table.entry) v.now }
 {
     is_between(LEAST_PLANES, MOST_PLANES, v.members.planes as usize)
-        & member_within(&v.members.member1)
-        & member_within(&v.members.member2)
+        & member_within(table, &v.members.member1)
+        & member_within(table, &v.members.member2)
         & (is_between(LEAST_DIAMETER, MOST_DIAMETER, v.dowel.diameter as usize)
             & is_between(FIRST_CODE, LAST_STEEL, v.dowel.steel as usize))
         & positions_within(&v.positions)
@@ -109,11 +111,11 @@ fn fields_within(v: &Values) -> bool
 }
 
 // Refusals 7 to 9: the first that values have, whether a record has them or a writer is handed them.
-#[tactic(auto, unfolding(crate::specs::Refusal::first_holding, crate::specs::Refusal::empty_outlines))]
-pub fn check_values(v: &Values) -> Result<(), Refusal>
-    ensures { refusal_in result ≡ first_holding (value_tests v.now) }
+#[tactic(auto, unfolding(tables::specs::Tests::first_holding, crate::specs::Refusal::empty_outlines))]
+pub fn check_values(table: Source, v: &Values) -> Result<(), Refusal>
+    ensures { refusal_in result ≡ first_holding (value_tests (table_of table.entry) v.now) }
 {
-    let within = fields_within(v);
+    let within = fields_within(table, v);
     let empty = outline_empty(v.members.member1.outline) | outline_empty(v.members.member2.outline);
     if !within {
         return Err(Refusal::FieldOutside);

@@ -1,7 +1,8 @@
 // A record's values, part by part.
-ghost use Rattle.std.specs.Prelude.{◌≡◌, ◌+◌, ◌*◌, ◌≤◌, length};
+ghost use Rattle.std.specs.Prelude.{◌≡◌, ◌+◌, ◌*◌, ◌≤◌, length, replicate, pos};
 ghost use Rattle.numbers.specs.Numbers.{u8_at};
 ghost use Rattle.joint.specs.Layout.{member_at, members_in, dowel_in, column, positions_in, loads_in, values_of};
+ghost use Rattle.joint.specs.Refusal.{zero_positions};
 ghost use Rattle.joint.specs.Stage.{LaidOut, eighths};
 
 use crate::layout::{Parts, stretch};
@@ -53,30 +54,28 @@ fn dowel_in(part: &[u8]) -> Dowel
     }
 }
 
-// Every eighth byte from `at` on starts a dowel's number.
-fn column_of(part: &[u8], at: usize, n: usize) -> [i32; MOST_DOWELS]
-    requires { (at ≤ 6) × (2 + 8 * n ≤ length part.now) }
-    ensures { result ≡ column (eighths part.now at) n }
+// Every eighth byte from `at` on starts a dowel's number. They go into places that are all 0: arrays handed back by value are copied twice more.
+fn put_column(part: &[u8], at: usize, n: usize, l: &mut [i32; MOST_DOWELS])
+    requires part { (at ≤ 6) × (2 + 8 * n ≤ length part.now) }
+    requires zeros { l.old ≡ replicate 64 (pos 0) }
+    ensures { l.new ≡ column (eighths part.now at) n }
 {
-    let mut l = [0i32; MOST_DOWELS];
     for i in 0..n.min(MOST_DOWELS) {
         l[i] = i32_at(part, at + POSITION_BYTES * i);
     }
-    l
 }
 
 // Kind, N, then x and y of each dowel.
 #[tactic(auto, using(crate::proofs::Columns::x_column, crate::proofs::Columns::y_column), unfolding(crate::specs::Layout::positions_in))]
-fn positions_in(part: &[u8]) -> Positions
-    requires { length part.now ≡ 2 + 8 * u8_at part.now 1 }
-    ensures { result ≡ positions_in part.now }
+fn put_positions(part: &[u8], positions: &mut Positions)
+    requires part { length part.now ≡ 2 + 8 * u8_at part.now 1 }
+    requires zeros { positions.old ≡ zero_positions }
+    ensures { positions.new ≡ positions_in part.now }
 {
     let n = part[1] as usize;
-    Positions {
-        n,
-        x: column_of(part, FIRST_X, n),
-        y: column_of(part, FIRST_Y, n),
-    }
+    positions.n = n;
+    put_column(part, FIRST_X, n, &mut positions.x);
+    put_column(part, FIRST_Y, n, &mut positions.y);
 }
 
 // Kind, service class, duration, then fx and fy.
@@ -94,15 +93,14 @@ fn loads_in(part: &[u8]) -> Loads
 }
 
 #[tactic(auto, using(crate::proofs::Stages::values_read))]
-pub(crate) fn values_of(bytes: &[u8], parts: Parts) -> Values
-    requires { LaidOut bytes.now parts }
-    ensures { result ≡ values_of bytes.now }
+pub(crate) fn put_values(bytes: &[u8], parts: Parts, values: &mut Values)
+    requires laid { LaidOut bytes.now parts }
+    requires zeros { values.old.positions ≡ zero_positions }
+    ensures { values.new ≡ values_of bytes.now }
 {
-    Values {
-        version: u16_at(bytes, VERSION_AT),
-        members: members_in(stretch(bytes, parts.members)),
-        dowel: dowel_in(stretch(bytes, parts.dowel)),
-        positions: positions_in(stretch(bytes, parts.positions)),
-        loads: loads_in(stretch(bytes, parts.loads)),
-    }
+    values.version = u16_at(bytes, VERSION_AT);
+    values.members = members_in(stretch(bytes, parts.members));
+    values.dowel = dowel_in(stretch(bytes, parts.dowel));
+    put_positions(stretch(bytes, parts.positions), &mut values.positions);
+    values.loads = loads_in(stretch(bytes, parts.loads));
 }

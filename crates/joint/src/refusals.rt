@@ -1,4 +1,4 @@
-// Why a record is turned away (01, 'Who causes which refusal').
+// Why a record is turned away (01, 'Who causes which refusal'; 02, A4).
 ghost use Rattle.std.specs.Prelude.{◌≡◌};
 
 use spacing::verdict::Fault;
@@ -28,10 +28,50 @@ impl Refusal {
     }
 }
 
-// Any refusal: of the record as it is read, or, 10 to 12, of its drill plan.
+// Why a record is not read: the table of classes is turned away, by 14 or 15, or the record is, by 1 to 9.
+#[derive(Clone, Copy, PartialEq, Eq, Debug)]
+pub enum Unread {
+    Table(tables::Refusal),
+    Record(Refusal),
+}
+
+impl Unread {
+    ghost use Rattle.joint.specs.Told.{unread_number};
+
+    pub fn number(self) -> u8
+        ensures { result ≡ unread_number self }
+    {
+        match self {
+            Unread::Table(refusal) => refusal.number(),
+            Unread::Record(refusal) => refusal.number(),
+        }
+    }
+}
+
+impl From<tables::Refusal> for Unread {
+    ghost use Rattle.joint.specs.declared.refusals.Unread.TheVariants.{Table};
+
+    ghost from_gives = { λ refusal r. r ≡ Table refusal };
+
+    fn from(refusal: tables::Refusal) -> Unread {
+        Unread::Table(refusal)
+    }
+}
+
+impl From<Refusal> for Unread {
+    ghost use Rattle.joint.specs.declared.refusals.Unread.TheVariants.{Record};
+
+    ghost from_gives = { λ refusal r. r ≡ Record refusal };
+
+    fn from(refusal: Refusal) -> Unread {
+        Unread::Record(refusal)
+    }
+}
+
+// Any refusal: the record is not read, or, 10 to 12, its drill plan has a fault.
 #[derive(Clone, Copy, PartialEq, Eq, Debug)]
 pub enum Rejection {
-    Record(Refusal),
+    Unread(Unread),
     Plan(Fault),
 }
 
@@ -42,7 +82,7 @@ impl Rejection {
         ensures { result ≡ (fault_in self).number }
     {
         match self {
-            Rejection::Record(refusal) => refusal.number(),
+            Rejection::Unread(unread) => unread.number(),
             Rejection::Plan(fault) => fault.number(),
         }
     }
@@ -52,7 +92,7 @@ impl Rejection {
         ensures { result ≡ plan_fault self }
     {
         match self {
-            Rejection::Record(_) => None,
+            Rejection::Unread(_) => None,
             Rejection::Plan(fault) => Some(fault),
         }
     }
@@ -77,13 +117,13 @@ impl Rejection {
     }
 }
 
-impl From<Refusal> for Rejection {
-    ghost use Rattle.joint.specs.declared.refusals.Rejection.TheVariants.{Record};
+impl From<Unread> for Rejection {
+    ghost use Rattle.joint.specs.declared.refusals.Rejection.TheVariants.{Unread as NotRead};
 
-    ghost from_gives = { λ refusal r. r ≡ Record refusal };
+    ghost from_gives = { λ unread r. r ≡ NotRead unread };
 
-    fn from(refusal: Refusal) -> Rejection {
-        Rejection::Record(refusal)
+    fn from(unread: Unread) -> Rejection {
+        Rejection::Unread(unread)
     }
 }
 

@@ -1,5 +1,7 @@
--- The entries for C that read a record's values and write a record (02, A2): what comes back, and what every lent slice holds afterwards.
+-- The entries for C that read a record's values and write a record (02, A2), by a table (A4): what comes back, and what every lent slice holds
+-- afterwards.
 use Rattle.std.specs.Prelude.{ℕ, ◌≡◌, Bool, cond, ◌||◌, List, ltb, ℤ, length}
+use Rattle.tables.specs.Table.{Table}
 use Rattle.joint.specs.Answer.{Reading}
 use Rattle.joint.specs.Refusal.{reading_of}
 use Rattle.writer.specs.Read.{fields_of, marks_of}
@@ -34,9 +36,9 @@ read_into short r p =
       answer = put short (told r.number r.values.positions.n) p.answer;
     }
 
-pub record ReadOut (bytes : List ℕ) (entry : Places) (result : ℕ) (exit : Places) : Type 0 where
+pub record ReadOut (t : Table) (bytes : List ℕ) (entry : Places) (result : ℕ) (exit : Places) : Type 0 where
   pub code : result ≡ code_of (read_short entry)
-  pub out : exit ≡ read_into (read_short entry) (reading_of bytes) entry
+  pub out : exit ≡ read_into (read_short entry) (reading_of t bytes) entry
 
 -- ---- writing: `fields`, `x` and `y` are handed over, and `buffer` and `answer` are lent; the marks are not looked at
 abbrev pub write_short : List ℤ → List ℕ → Bool
@@ -46,8 +48,8 @@ write_short fields answer = ltb (length fields) 27 || ltb (length answer) 2
 abbrev pub written : Written → List ℕ
 written w = told w.number w.length
 
-pub record WroteOut (fields x y : List ℤ) (buffer answer : List ℕ) (result : ℕ) (bufferExit answerExit : List ℕ) : Type 0 where
+pub record WroteOut (t : Table) (fields x y : List ℤ) (buffer answer : List ℕ) (result : ℕ) (bufferExit answerExit : List ℕ) : Type 0 where
   pub code : result ≡ code_of (write_short fields answer)
-  pub bytes : bufferExit ≡ cond (write_short fields answer) buffer (buffer_after (fields_in fields) x y buffer)
+  pub bytes : bufferExit ≡ cond (write_short fields answer) buffer (buffer_after t (fields_in fields) x y buffer)
   pub out :
-      answerExit ≡ put (write_short fields answer) (written (written_of (fields_in fields) x y (length buffer))) answer
+      answerExit ≡ put (write_short fields answer) (written (written_of t (fields_in fields) x y (length buffer))) answer

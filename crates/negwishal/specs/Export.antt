@@ -1,6 +1,7 @@
--- The entry for C that judges a record: which number stands for a verdict, in which order the fields come, what comes back, and what the
+-- The entries for C that judge a record: which number stands for a verdict, in which order the fields come, what comes back, and what the
 -- slice holds afterwards.
 use Rattle.std.specs.Prelude.{ℕ, ◌≡◌, Bool, List, [], ◌∷◌, ltb, length}
+use Rattle.tables.specs.Table.{Table}
 use Rattle.joint.specs.Answer.{Verdict, Report}
 use Rattle.joint.specs.Answer.Verdict.{Fits, Overloaded, Refused}
 use Rattle.joint.specs.Claim.{Judged}
@@ -21,8 +22,8 @@ filled r =
 abbrev pub judge_short : List ℕ → Bool
 judge_short entry = ltb (length entry) 8
 
--- what comes back and what the slice holds afterwards; the report that stands there is judged right
-pub record Exported (bytes entry : List ℕ) (answer : ℕ) (exit : List ℕ) : Type 0 where
+-- by a table: what comes back and what the slice holds afterwards; the report that stands there is judged right
+pub record Exported (t : Table) (bytes entry : List ℕ) (answer : ℕ) (exit : List ℕ) : Type 0 where
   pub code : answer ≡ code_of (judge_short entry)
-  pub out : exit ≡ put (judge_short entry) (filled (report_of bytes)) entry
-  pub claim : Judged bytes (report_of bytes)
+  pub out : exit ≡ put (judge_short entry) (filled (report_of t bytes)) entry
+  pub claim : Judged t bytes (report_of t bytes)

@@ -1,18 +1,20 @@
-// The entries for C: a record is judged, its values are read, and a record is written from values. Each slice of numbers has an order that is
-// fixed for good. The crate `negwishal_c` exports them under these names.
+// The entries for C: a record is judged, its values are read, and a record is written from values, by the printed table of classes, or, `_with`, by
+// a firm's own; and such a table is loaded. Each slice of numbers has an order that is fixed for good. The crate `negwishal_c` exports them under
+// these names.
 #![tactic(auto)]
 
 ghost use Rattle.std.specs.Prelude.{◌≡◌, ◌≤◌, length};
-ghost use Rattle.joint.specs.Refusal.{zero_values};
+ghost use Rattle.tables.specs.Table.{printed, own_table, table_of, table_number};
 ghost use Rattle.joint.specs.Told.{told};
 ghost use Rattle.negwishal.specs.Export.{filled, Exported};
 ghost use Rattle.negwishal.specs.Exchange.{places, ReadOut, WroteOut};
 ghost use Rattle.negwishal.specs.Working.{Placed};
 
-use joint::refusals::Refusal;
+use joint::refusals::Unread;
 use joint::report::Judgement;
-use joint::{MOST_DOWELS, Values, judge};
+use joint::{MOST_DOWELS, Values, nothing};
 use lent::{NUMBERS, copy, fields_in, numbers_of, tell};
+use tables::Source;
 use writer::handed::{fields_of, marks_of};
 
 // How many numbers a report takes.
@@ -43,17 +45,40 @@ fn numbers_in(judgement: Judgement) -> [u64; FIELDS]
     }
 }
 
-// Judges a record. A slice of fewer than eight numbers is left as it is and 1 comes back; else 0, and the report's fields stand in it:
+// Loads a firm's own table of classes: 0, or 14 or 15, by which it is turned away.
+pub fn negwishal_load(table: &[u8]) -> u32
+    ensures { result ≡ table_number (own_table table.now) }
+{
+    tables::load(table)
+        .err()
+        .map_or(0, |refusal| refusal.number() as u32)
+}
+
+// Judges a record by a table. A slice of fewer than eight numbers is left as it is and 1 comes back; else 0, and the report's fields stand in it:
 // verdict (0 refused, 1 fits, 2 overloaded), number, member, first, second, use, capacity, share.
-#[tactic(auto, using(joint::proofs::Claims::claim))]
-pub fn negwishal_judge(bytes: &[u8], out: &mut [u64]) -> u32
-    ensures { Exported bytes.now out.old result out.new }
+#[tactic(auto, using(joint::proofs::Claims::claimed))]
+fn judge_by(table: Source, bytes: &[u8], out: &mut [u64]) -> u32
+    ensures { Exported (table_of table.entry) bytes.now out.old result out.new }
 {
     if out.len() < FIELDS {
         return 1;
     }
-    copy(&numbers_in(judge(bytes)), out);
+    copy(&numbers_in(joint::judge_with(table, bytes)), out);
     0
+}
+
+// By the printed table.
+pub fn negwishal_judge(bytes: &[u8], out: &mut [u64]) -> u32
+    ensures { Exported printed bytes.now out.old result out.new }
+{
+    judge_by(Source::Printed, bytes, out)
+}
+
+// By a firm's own table, which may be any bytes: where it is turned away the report is refused by its number.
+pub fn negwishal_judge_with(table: &[u8], bytes: &[u8], out: &mut [u64]) -> u32
+    ensures { Exported (own_table table.now) bytes.now out.old result out.new }
+{
+    judge_by(Source::Own(table), bytes, out)
 }
 
 // Puts the dowels' numbers into a slice each, as C lends them.
@@ -66,19 +91,13 @@ fn hand_places(v: &Values, x: &mut [i32], y: &mut [i32], marks: &mut [i32])
     copy(&marks_of(v), marks);
 }
 
-// What is handed on where nothing was read: values that are all 0. Its promise says so as one value; a `Default` says it field by field.
-fn nothing() -> Values
-    ensures { result ≡ zero_values }
-{
-    Values::default()
-}
-
-// Reads a record's values. Where a slice is too short (27, 64, 64, 64, 2) all are left as they are and 1 comes back; else 0, and there
+// Reads a record's values by a table. Where a slice is too short (27, 64, 64, 64, 2) all are left as they are and 1 comes back; else 0, and there
 // stand in `fields` version, planes, then for member 1 and for member 2 each class, grain, gx, gy, thickness, x0, y0, x1, y1, then
 // diameter, steel, plate, service class, duration, fx, fy; in `x`, `y` and `marks` a number for each of 64 dowels; in `answer` the
-// refusal 1 to 9 or 0, and the number of dowels. All but the refusal are 0 on refusal, and so is each number for which the record's
+// table's refusal, 1 to 9 or 0, and the number of dowels. All but the refusal are 0 on refusal, and so is each number for which the record's
 // version has no field. C lends each slice by itself, so no struct holds them.
-pub fn negwishal_read(
+fn read_by(
+    table: Source,
     bytes: &[u8],
     fields: &mut [i32],
     x: &mut [i32],
@@ -86,7 +105,7 @@ pub fn negwishal_read(
     marks: &mut [i32],
     answer: &mut [u64],
 ) -> u32
-    ensures { ReadOut bytes.now
+    ensures { ReadOut (table_of table.entry) bytes.now
         (places fields.old x.old y.old marks.old answer.old) result
         (places fields.new x.new y.new marks.new answer.new) }
 {
@@ -98,8 +117,8 @@ pub fn negwishal_read(
     if short {
         return 1;
     }
-    let reading = joint::read(bytes);
-    let number = reading.err().map_or(0, Refusal::number);
+    let reading = joint::read_with(table, bytes);
+    let number = reading.err().map_or(0, Unread::number);
     let values = reading.unwrap_or(nothing());
     copy(&numbers_of(&fields_of(&values)), fields);
     hand_places(&values, x, y, marks);
@@ -107,9 +126,68 @@ pub fn negwishal_read(
     0
 }
 
-// Writes a record from its numbers, which stand in `fields`, `x` and `y` as `negwishal_read` hands them out, but that `x` and `y` have a
+// By the printed table.
+pub fn negwishal_read(
+    bytes: &[u8],
+    fields: &mut [i32],
+    x: &mut [i32],
+    y: &mut [i32],
+    marks: &mut [i32],
+    answer: &mut [u64],
+) -> u32
+    ensures { ReadOut printed bytes.now
+        (places fields.old x.old y.old marks.old answer.old) result
+        (places fields.new x.new y.new marks.new answer.new) }
+{
+    read_by(Source::Printed, bytes, fields, x, y, marks, answer)
+}
+
+// By a firm's own table, which may be any bytes.
+pub fn negwishal_read_with(
+    table: &[u8],
+    bytes: &[u8],
+    fields: &mut [i32],
+    x: &mut [i32],
+    y: &mut [i32],
+    marks: &mut [i32],
+    answer: &mut [u64],
+) -> u32
+    ensures { ReadOut (own_table table.now) bytes.now
+        (places fields.old x.old y.old marks.old answer.old) result
+        (places fields.new x.new y.new marks.new answer.new) }
+{
+    read_by(Source::Own(table), bytes, fields, x, y, marks, answer)
+}
+
+// Writes a record by a table from its numbers, which stand in `fields`, `x` and `y` as the reader hands them out, but that `x` and `y` have a
 // number for each dowel and no more. Where `fields` or `answer` is too short (27, 2) nothing is written and 1 comes back; else 0, and
-// `answer` has the refusal or 0, and how many bytes of `buffer` are the record's. C lends each slice by itself here too.
+// `answer` has the refusal or 0, and how many bytes of `buffer` are the record's. C lends each slice by itself here too. The hints here and on the
+// writer itself keep writing by the printed table as quick as it was: as calls these two would hand nine slices on and copy the values once more.
+#[inline(always)]
+fn write_by(
+    table: Source,
+    fields: &[i32],
+    x: &[i32],
+    y: &[i32],
+    marks: &[i32],
+    buffer: &mut [u8],
+    answer: &mut [u64],
+) -> u32
+    ensures { WroteOut (table_of table.entry) fields.now x.now y.now buffer.old answer.old
+        result buffer.new answer.new }
+{
+    let short = (fields.len() < NUMBERS) | (answer.len() < ANSWERS);
+    if short {
+        return 1;
+    }
+    match writer::write_with(table, &fields_in(fields), x, y, marks, buffer) {
+        Ok(length) => tell(0, length, answer),
+        Err(unwritten) => tell(unwritten.number(), 0, answer),
+    }
+    0
+}
+
+// By the printed table.
 pub fn negwishal_write(
     fields: &[i32],
     x: &[i32],
@@ -118,16 +196,24 @@ pub fn negwishal_write(
     buffer: &mut [u8],
     answer: &mut [u64],
 ) -> u32
-    ensures { WroteOut fields.now x.now y.now buffer.old answer.old result
-        buffer.new answer.new }
+    ensures { WroteOut printed fields.now x.now y.now buffer.old answer.old
+        result buffer.new answer.new }
 {
-    let short = (fields.len() < NUMBERS) | (answer.len() < ANSWERS);
-    if short {
-        return 1;
-    }
-    match writer::write(&fields_in(fields), x, y, marks, buffer) {
-        Ok(length) => tell(0, length, answer),
-        Err(unwritten) => tell(unwritten.number(), 0, answer),
-    }
-    0
+    write_by(Source::Printed, fields, x, y, marks, buffer, answer)
+}
+
+// By a firm's own table, which may be any bytes.
+pub fn negwishal_write_with(
+    table: &[u8],
+    fields: &[i32],
+    x: &[i32],
+    y: &[i32],
+    marks: &[i32],
+    buffer: &mut [u8],
+    answer: &mut [u64],
+) -> u32
+    ensures { WroteOut (own_table table.now) fields.now x.now y.now buffer.old answer.old
+        result buffer.new answer.new }
+{
+    write_by(Source::Own(table), fields, x, y, marks, buffer, answer)
 }

@@ -13,8 +13,8 @@ use Rattle.tables.proofs.Woods.{sound, printed_sound}
 use Rattle.tables.specs.declared.entry.Entry.{Entry}
 use Rattle.tables.specs.declared.Source.{Source}
 use Rattle.tables.specs.declared.Source.TheVariants.{Printed, Own}
-use Rattle.tables.specs.Tests.{first_holding}
-use Rattle.tables.specs.Table.{entries_of, refusal14, entry_within, rise, refusal15, line_of, own_table, table_of, table_number, Loads}
+use Rattle.tables.specs.Tests.{first_holding, numbered}
+use Rattle.tables.specs.Table.{entries_of, refusal14, entry_within, rise, refusal15, line_of, printed, own_table, table_of, table_number, Loaded, Right}
 
 entry_line : (e : Entry) → entry_within e ≡ true → line_test (line_of e).code (line_of e).entry ≡ true
 unfolding entry_within line_test
@@ -30,7 +30,8 @@ lines_pass_lem before [] h = refl
 lines_pass_lem before (e ∷ es) h =
     let p = simp and-eq-true_iff at h in simp (entry_line e p.0.0, lines_pass_lem e.code es p.1)
 
-own_sound : (b : List ℕ) → Loads (own_table b) → Sound (own_table b).classes
+-- every class of a table that loads has a code of one byte, and a density from 290 to 1,100
+pub own_sound : (b : List ℕ) → Loaded (own_table b) → Sound (own_table b).classes
 unfolding first_holding refusal15
 own_sound b h = go (refusal14 b) refl (rise 0 (entries_of b)) refl
   where
@@ -52,7 +53,15 @@ own_number b = go (refusal14 b) (refusal15 b)
     go false true = inr (inr refl)
     go false false = inl refl
 
--- every class of a table that loads has a code of one byte, and a density from 290 to 1,100
-pub table_sound : (source : Source) → Loads (table_of source) → Sound (table_of source).classes
-table_sound Printed h = printed_sound
-table_sound (Own b) h = own_sound b.now h
+-- ---- every table that a call names
+pub own_right : (b : List ℕ) → Right (own_table b)
+unfolding numbered
+own_right b = record { no_zero = refl; sound = own_sound b }
+
+pub printed_right : Right printed
+unfolding numbered
+printed_right = record { no_zero = refl; sound = λ _. printed_sound }
+
+pub right : (source : Source) → Right (table_of source)
+right Printed = printed_right
+right (Own b) = own_right b.now

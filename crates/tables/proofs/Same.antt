@@ -3,7 +3,7 @@ use mathlib.Core.Path.{refl}
 use Rattle.chain.specs.Chain.{number_at, bound, all_follow, chained}
 use Rattle.codes.specs.Tables.{printed_classes}
 use Rattle.tables.specs.Tests.{first_holding}
-use Rattle.tables.specs.Table.{entries_in, refusal14, entry_within, rise, refusal15, printed, printed_as_own, Loads, Alike}
+use Rattle.tables.specs.Table.{entries_in, refusal14, entry_within, rise, refusal15, printed, printed_as_own, Loaded, Alike}
 
 -- it has the printed classes, and is turned away as the printed table is: by nothing
 pub printed_alike : Alike printed_as_own printed
@@ -11,6 +11,6 @@ unfolding first_holding refusal14 refusal15 number_at bound all_follow chained e
 printed_alike = record { number = refl; classes = refl }
 
 -- 'The printed table, written in this layout, loads'
-pub printed_loads : Loads printed_as_own
+pub printed_loads : Loaded printed_as_own
 unfolding first_holding
 printed_loads = printed_alike.number

@@ -1,15 +1,16 @@
--- The table by which the classes of a record are read: the printed one, or a firm's own (02, A4). A firm's is the list of its bytes.
+-- The table by which the classes of a record are read: the printed one, or a firm's own (02, A4), which is handed in as bytes, here the list of
+-- them.
 use Rattle.std.specs.Prelude.{ℕ, ◌%◌, ◌≡◌, Bool, true, cond, not, ◌&&◌, ◌||◌, List, [], ◌∷◌, ◌++◌, map, ltb, leb, eqb, pos, length, drop, Option}
 use Rattle.numbers.specs.Fields.{Width, size, place, field, field_bytes}
 use Rattle.numbers.specs.Fields.Width.{U8, U16}
 use Rattle.codes.specs.declared.Kind.{Kind}
 use Rattle.codes.specs.declared.Kind.TheVariants.{Softwood, Hardwood}
 use Rattle.codes.specs.Tables.{Line, line, softwood, hardwood, printed_classes, is_known, wood_in}
-use Rattle.tables.specs.Classes.{class_in}
+use Rattle.tables.specs.Classes.{class_in, Sound}
 use Rattle.codes.specs.declared.Wood.{Wood}
 use Rattle.chain.specs.Chain.{chained}
 use Rattle.chain.specs.declared.Width.TheVariants.{Two}
-use Rattle.tables.specs.Tests.{Test, test, first_holding}
+use Rattle.tables.specs.Tests.{Test, test, first_holding, numbered}
 use Rattle.tables.specs.declared.entry.Entry.{Entry}
 use Rattle.tables.specs.declared.Source.{Source}
 use Rattle.tables.specs.declared.Source.TheVariants.{Printed, Own}
@@ -30,8 +31,8 @@ wood_of t code = wood_in (class_in t.classes code)
 abbrev pub table_number : Table → ℕ
 table_number t = first_holding t.tests
 
-abbrev pub Loads : Table → Type 0
-Loads t = table_number t ≡ 0
+abbrev pub Loaded : Table → Type 0
+Loaded t = table_number t ≡ 0
 
 -- the printed table is turned away by nothing
 abbrev pub printed : Table
@@ -47,7 +48,7 @@ pair_count b = field front_fields 0 b 0
 abbrev pub entries_length : List ℕ → ℕ
 entries_length b = field front_fields 2 b 0
 
--- 'code u8 from 1, kind u8 (0 softwood, 1 hardwood), density u16 from 290 to 1,100'
+-- 'code u8 from 1, kind u8 (0 softwood, 1 hardwood), density u16 from 290 to 1,100', in kg/m³ as the printed densities
 abbrev pub entry_fields : List Width
 entry_fields = U8 ∷ U8 ∷ U16 ∷ []
 
@@ -101,6 +102,12 @@ abbrev pub table_of : Source → Table
 table_of Printed = printed
 table_of (Own b) = own_table b.now
 
+-- what laws about any table ask of it: a refusal of its own is no 0, and where it loads its classes are sound. So is every table that a call
+-- names (`right`, proofs/Loading).
+pub record Right (t : Table) : Type 0 where
+  pub no_zero : numbered t.tests ≡ true
+  pub sound : Loaded t → Sound t.classes
+
 -- ---- a table's classes in this layout
 abbrev pub kind_code : Kind → ℕ
 kind_code Softwood = 0
@@ -116,7 +123,7 @@ lines_bytes [] = []
 lines_bytes (l ∷ ls) = line_bytes l ++ lines_bytes ls
 
 abbrev pub table_bytes : List (Line (Option Wood)) → List ℕ
-table_bytes ls = field_bytes front_fields (pos 1 ∷ pos 6 ∷ pos (length (lines_bytes ls)) ∷ []) ++ lines_bytes ls
+table_bytes ls = field_bytes front_fields (pos 1 ∷ pos (size front_fields) ∷ pos (length (lines_bytes ls)) ∷ []) ++ lines_bytes ls
 
 -- 'The printed table, written in this layout'
 abbrev pub printed_as_own : Table

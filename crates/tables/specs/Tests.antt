@@ -1,5 +1,5 @@
 -- Refusals as a list of tests in their order: of a table, and of a record or of a writer's values after it.
-use Rattle.std.specs.Prelude.{ℕ, Bool, cond, List, [], ◌∷◌}
+use Rattle.std.specs.Prelude.{ℕ, Bool, true, cond, ◌&&◌, List, [], ◌∷◌, ltb}
 
 -- a refusal's number, and whether its test holds
 pub record Test : Type 0 where
@@ -13,3 +13,8 @@ test k b = record { number = k; holds = b }
 unfoldable pub first_holding : List Test → ℕ
 first_holding [] = 0
 first_holding (t ∷ tests) = cond t.holds t.number (first_holding tests)
+
+-- no test has the number 0, which says that none holds
+unfoldable pub numbered : List Test → Bool
+numbered [] = true
+numbered (t ∷ tests) = ltb 0 t.number && numbered tests

@@ -1,16 +1,16 @@
 // A table of classes: the printed one, or a firm's own, which is lent as bytes (02, A4). A firm's table is loaded, or turned away by 14 or 15,
-// and asked for a code. Nothing reads a record by it yet.
+// and asked for a code.
 #![tactic(auto)]
 
 mod entry;
 
 ghost use Rattle.std.specs.Prelude.{◌≡◌, not};
 ghost use Rattle.tables.specs.Classes.{class_in};
-ghost use Rattle.tables.specs.Table.{entries_of, rise, refusal14, own_table, table_of, table_number};
+ghost use Rattle.tables.specs.Table.{entries_of, rise, refusal14, own_table, table_of, table_number, is_class, wood_of};
 ghost use Rattle.tables.specs.Told.{number_of, told};
 
 use chain::Width;
-use codes::Wood;
+use codes::{NO_WOOD, Wood};
 use entry::{ENTRY_BYTES, Entry, entries};
 use numbers::u16_at;
 
@@ -129,5 +129,19 @@ impl Source<'_> {
             Source::Printed => codes::class_of(code),
             Source::Own(table) => own_class(table, code),
         }
+    }
+
+    // Whether the table has the class.
+    pub fn is_class(self, code: u8) -> bool
+        ensures { result ≡ is_class (table_of self.entry) code }
+    {
+        self.class_of(code).is_some()
+    }
+
+    // The wood of a class, with density 0 where the table lacks it.
+    pub fn wood_of(self, code: u8) -> Wood
+        ensures { result ≡ wood_of (table_of self.entry) code }
+    {
+        self.class_of(code).unwrap_or(NO_WOOD)
     }
 }

@@ -26,7 +26,10 @@ use Rattle.joint.specs.Layout.{version, pair_count, part_of_kind, member_at, mem
 use Rattle.joint.specs.Layout.{column, positions_in, loads_in, values_of}
 use Rattle.joint.specs.Layout.{member_bytes, members_bytes, dowel_bytes, columns_bytes, positions_bytes, loads_bytes, bytes_of}
 use Rattle.joint.specs.Refusal.{refusal1, refusal2, refusal3, refusal4, refusal5, positions_length, refusal6}
-use Rattle.joint.specs.Refusal.{empty_outlines, no_force, first_holding, refusal_number}
+use Rattle.joint.specs.Refusal.{empty_outlines, no_force, refusal_number}
+use Rattle.tables.specs.Tests.{first_holding}
+use Rattle.tables.specs.Table.{Table, Loaded, Right}
+use Rattle.joint.proofs.Faults.{number_of_record}
 use Rattle.joint.specs.Refusal.{outline_within, member_within, members_within, coordinates, positions_within, loads_within, fields_within}
 use Rattle.joint.proofs.Columns.{column_length, column_same}
 use Rattle.put.proofs.Lengths.{members_length, dowel_length, columns_length, positions_length_lem, loads_length}
@@ -39,9 +42,9 @@ record Small (o : Outline) : Type 0 where
   x1 : mag o.x1 < 2147483648
   y1 : mag o.y1 < 2147483648
 
-small : (m : Member) → member_within m ≡ true → Small m.outline
+small : (t : Table) (m : Member) → member_within t m ≡ true → Small m.outline
 unfolding member_within outline_within
-small m h =
+small t m h =
     let p = simp and-eq-true_iff at h in
     record {
       x0 = coordinate_fits m.outline.x0 p.1.0.0.0;
@@ -50,12 +53,12 @@ small m h =
       y1 = coordinate_fits m.outline.y1 p.1.1;
     }
 
-members_back : (m : Members) → members_within m ≡ true → members_in (members_bytes m) ≡ m
+members_back : (t : Table) (m : Members) → members_within t m ≡ true → members_in (members_bytes m) ≡ m
 unfolding members_in member_at members_bytes member_bytes i32_at members_within
-members_back m h =
+members_back t m h =
     let p = simp and-eq-true_iff at h in
-    let a = small m.member1 p.0.1 in
-    let b = small m.member2 p.1 in
+    let a = small t m.member1 p.0.1 in
+    let b = small t m.member2 p.1 in
     λ i. record {
       planes = m.planes;
       member1 =
@@ -225,12 +228,12 @@ column_at f (suc n) k h g = of (ℕ_discrete k n) (column_at f n k)
 pub clean_column : (f : ℕ → ℤ) (n : ℕ) → n ≤ 64 → column (λ k. get_or (column f n) k (pos 0)) n ≡ column f n
 clean_column f n g = column_same _ f n (λ k h. column_at f n k h g)
 
-module _ (v : Values) (clear : cleaned v ≡ v) (h : fields_within v ≡ true) where
+module _ (t : Table) (v : Values) (clear : cleaned v ≡ v) (h : fields_within t v ≡ true) where
   abbrev bytes : List ℕ
   bytes = bytes_of v
 
   record Within : Type 0 where
-    members : members_within v.members ≡ true
+    members : members_within t v.members ≡ true
     positions : positions_within v.positions ≡ true
     loads : loads_within v.loads ≡ true
 
@@ -291,7 +294,7 @@ module _ (v : Values) (clear : cleaned v ≡ v) (h : fields_within v ≡ true) w
       (λ i.
       record {
         version = version_back i;
-        members = (ap members_in kind_1 ∙ members_back v.members inside.members) i;
+        members = (ap members_in kind_1 ∙ members_back t v.members inside.members) i;
         dowel = (ap dowel_in kind_2 ∙ dowel_back v.dowel) i;
         positions = (ap positions_in kind_3 ∙ positions_back v.positions inside.positions) i;
         loads = (ap loads_in kind_4 ∙ loads_back v.loads inside.loads) i;
@@ -344,6 +347,7 @@ module _ (v : Values) (clear : cleaned v ≡ v) (h : fields_within v ≡ true) w
         eq-eqb (2 + 8 * v.positions.n) (2 + 8 * v.positions.n) refl,
       )
 
-  pub passes : is_version v.version ≡ true → empty_outlines v.members ≡ false → no_force v.loads ≡ false → refusal_number bytes ≡ 0
-  unfolding refusal_number first_holding
-  passes k e f = simp (one, two k, three, four', five', six, values_back, h, e, f)
+  pub passes : Right t → Loaded t → is_version v.version ≡ true → empty_outlines v.members ≡ false → no_force v.loads ≡ false
+      → refusal_number t bytes ≡ 0
+  unfolding first_holding
+  passes right loads k e f = number_of_record t right loads bytes ∙ simp (one, two k, three, four', five', six, values_back, h, e, f)

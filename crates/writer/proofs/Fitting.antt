@@ -7,7 +7,8 @@ use mathlib.Core.Bool.{true, not, false≢true, and-eq-true_iff}
 use native.Mathlib.Omega.{arith}
 use borrow.Author.Tests.{leb-true, le-leb}
 use lib.IntN.{ℤ, pos, negsuc, nat_abs}
-use Rattle.codes.proofs.Woods.{class_byte}
+use Rattle.tables.specs.Classes.{Sound}
+use Rattle.tables.specs.Table.{Table}
 use Rattle.joint.specs.Refusal.{member_within, members_within, fields_within}
 use Rattle.joint.specs.Returned.{FieldsHold}
 use Rattle.joint.proofs.Accepted.{fields_hold}
@@ -25,12 +26,13 @@ two_bytes_within : (z : ℤ) → is_unsigned z ≡ true → nat_abs z ≤ 65535 
 two_bytes_within (pos n) u l = simp (u, le-leb n 65535 l)
 two_bytes_within (negsuc n) u l = absurd (false≢true u)
 
-member_within_lem : (m : MemberFields) → member_unsigned m ≡ true → member_within (member_from m) ≡ true → member_fits m ≡ true
+member_within_lem : (t : Table) → Sound t.classes → (m : MemberFields) → member_unsigned m ≡ true → member_within t (member_from m) ≡ true
+    → member_fits m ≡ true
 unfolding member_unsigned member_within member_fits
-member_within_lem m u w =
+member_within_lem t s m u w =
     let p = simp and-eq-true_iff at u in
     let q = simp and-eq-true_iff at w in
-    let k = class_byte (nat_abs m.class) q.0.0.0 in
+    let k = s.byte (nat_abs m.class) q.0.0.0 in
     let g = leb-true (nat_abs m.grain) 1 q.0.0.1.1 in
     let t = leb-true (nat_abs m.thickness) 4000 q.0.1.1 in
     simp (
@@ -39,9 +41,9 @@ member_within_lem m u w =
       two_bytes_within m.thickness p.1 (omega (arith, t)),
     )
 
-module _ (f : Fields) (x y : List ℤ) (u : fields_unsigned f ≡ true) (w : fields_within (values_from f x y) ≡ true) where
-  holds : FieldsHold (values_from f x y)
-  holds = fields_hold (values_from f x y) (ap not w)
+module _ (t : Table) (s : Sound t.classes) (f : Fields) (x y : List ℤ) (u : fields_unsigned f ≡ true) (w : fields_within t (values_from f x y) ≡ true) where
+  holds : FieldsHold t (values_from f x y)
+  holds = fields_hold t (values_from f x y) (ap not w)
 
   pub fields_within_lem : fields_fit f ≡ true
   unfolding fields_unsigned values_from fields_within members_within fields_fit
@@ -50,8 +52,8 @@ module _ (f : Fields) (x y : List ℤ) (u : fields_unsigned f ≡ true) (w : fie
       let q = simp and-eq-true_iff at w in
       simp (
         byte_within f.planes p.0.0.0.0.0.0 (omega (arith, holds.planes_high)),
-        member_within_lem f.member1 p.0.0.0.0.0.1 q.0.0.0.0.1,
-        member_within_lem f.member2 p.0.0.0.0.1 q.0.0.0.1,
+        member_within_lem t s f.member1 p.0.0.0.0.0.1 q.0.0.0.0.1,
+        member_within_lem t s f.member2 p.0.0.0.0.1 q.0.0.0.1,
         byte_within f.diameter p.0.0.0.1 (omega (arith, holds.diameter_high)),
         byte_within f.steel p.0.0.1 (omega (arith, holds.steel_high)),
         byte_within f.service_class p.0.1 (omega (arith, holds.service_high)),

@@ -4,4 +4,5 @@ pub mod Made
 pub mod Back
 pub mod Size
 pub mod Round
+pub mod Alike
 mod Placed

@@ -1,8 +1,8 @@
--- What the writer promises, over the definitions: it writes what passes its tests; what it wrote passes 1 to 9 and reads back; a record
+-- What the writer promises, over the definitions, by every table that loads: it writes what passes its tests; what it wrote passes 1 to 9 and reads back; a record
 -- read and written again reads alike; the buffer's old bytes play no part.
 use Prim.Native.Nat.{ℕ, ◌+◌, ◌*◌, ◌≤◌}
 use mathlib.Core.Path.{◌≡◌, refl, sym, ap, ◌∙◌}
-use mathlib.Core.List.{List, [], ◌∷◌, ◌++◌}
+use mathlib.Core.List.{List, [], ◌∷◌}
 use mathlib.Core.Bool.{Bool, true, false, not, ◌&&◌, false≢true, and-eq-true_iff}
 use native.Mathlib.Omega.{arith}
 use borrow.Author.Tests.{le-ltb, le-leb, eq-eqb, eqb-true, not-false}
@@ -14,14 +14,17 @@ use Rattle.codes.specs.Tables.{is_version}
 use Rattle.joint.specs.declared.Values.{Values}
 use Rattle.joint.specs.Layout.{part_of_kind, position_field, column, positions_in, bytes_of, values_of}
 use Rattle.joint.specs.Refusal.{refusal2, refusal4, refusal5, refusal6, empty_outlines, no_force, fields_within}
-use Rattle.joint.specs.Refusal.{test, first_holding, script_tests, designer_tests, refusal_number, reading_of}
-use Rattle.joint.proofs.Holding.{numbered, no_number, first_zero}
+use Rattle.tables.specs.Tests.{test, first_holding, numbered}
+use Rattle.tables.specs.Table.{Table, Loaded, Right}
+use Rattle.joint.specs.Refusal.{record_tests, refusal_number, reading_of}
+use Rattle.joint.proofs.Faults.{unrefused}
+use Rattle.joint.proofs.Holding.{no_number, first_zero, both_zero}
 use Rattle.joint.proofs.Accepted.{fields_hold}
 use Rattle.joint.proofs.Columns.{column_length, column_same}
 use Rattle.writer.specs.declared.MemberFields.{MemberFields}
 use Rattle.writer.specs.declared.Fields.{Fields}
 use Rattle.writer.specs.Write.{member_from, placed, values_from, is_unsigned, version_unknown, member_unsigned, fields_unsigned, lists_alike}
-use Rattle.writer.specs.Write.{handed_tests, writer_tests, writer_number, written_of, buffer_after, record_made}
+use Rattle.writer.specs.Write.{handed_tests, own_tests, writer_number, written_of, buffer_after, record_made}
 use Rattle.writer.specs.Read.{member_to, fields_of, marks_of, normal_member, normal, x_of, y_of, ReadsBack}
 use Rattle.put.proofs.Lengths.{bytes_length}
 use Rattle.writer.proofs.Back.{cleaned, column_at, clean_column, values_back, passes}
@@ -29,11 +32,12 @@ use Rattle.writer.proofs.Fitting.{lists_within}
 use Rattle.writer.proofs.Size.{size_is}
 
 -- ---- what the tests say where none holds
-record Clear (f : Fields) (x y : List ℤ) : Type 0 where
+record Clear (t : Table) (f : Fields) (x y : List ℤ) : Type 0 where
+  loads : Loaded t
   version : version_unknown f ≡ false
   unsigned : fields_unsigned f ≡ true
   alike : length x ≡ length y
-  within : fields_within (values_from f x y) ≡ true
+  within : fields_within t (values_from f x y) ≡ true
   outlines : empty_outlines (values_from f x y).members ≡ false
   force : no_force (values_from f x y).loads ≡ false
 
@@ -91,23 +95,25 @@ clean_from f x y e l =
       loads = (values_from f x y).loads;
     }
 
-module _ (f : Fields) (x y : List ℤ) where
+module _ (t : Table) (right : Right t) (f : Fields) (x y : List ℤ) where
   abbrev v : Values
   v = values_from f x y
 
   abbrev size : ℕ
   size = length (bytes_of v)
 
-  clear : (room : ℕ) → writer_number f x y room ≡ 0 → Clear f x y
-  unfolding writer_number writer_tests numbered
+  clear : (room : ℕ) → writer_number t f x y room ≡ 0 → Clear t f x y
+  unfolding writer_number own_tests numbered
   clear room h =
-      let n = no_number (writer_tests f x y room) refl h in
+      let z = both_zero t.tests (own_tests t f x y room) right.no_zero h in
+      let n = no_number (own_tests t f x y room) refl z.1 in
       let p = (and-eq-true_iff (fields_unsigned f) (lists_alike x y)).0 (not-false (fields_unsigned f && lists_alike x y) (n.none 1)) in
       record {
+        loads = z.0;
         version = n.none 0;
         unsigned = p.0;
         alike = eqb-true (length x) (length y) p.1;
-        within = not-false (fields_within v) (n.none 2);
+        within = not-false (fields_within t v) (n.none 2);
         outlines = n.none 3;
         force = n.none 4;
       }
@@ -116,20 +122,21 @@ module _ (f : Fields) (x y : List ℤ) where
   unfolding values_from
   size_is_n = bytes_length v
 
-  nothing : (room : ℕ) → first_holding (handed_tests f x y) ≡ 0 → 78 + 8 * length x ≤ room → writer_number f x y room ≡ 0
-  unfolding writer_number writer_tests numbered first_holding
-  nothing room h l =
-      first_zero (handed_tests f x y) (test 13 (ltb room size) ∷ []) refl h ∙ simp (le-ltb room size (rw size_is_n l))
+  nothing : (room : ℕ) → Loaded t → first_holding (handed_tests t f x y) ≡ 0 → 78 + 8 * length x ≤ room → writer_number t f x y room ≡ 0
+  unfolding writer_number own_tests numbered first_holding
+  nothing room loads h l =
+      first_zero t.tests (own_tests t f x y room) right.no_zero loads
+      ∙ first_zero (handed_tests t f x y) (test 13 (ltb room size) ∷ []) refl h ∙ simp (le-ltb room size (rw size_is_n l))
 
   -- ---- values that pass 2, 7, 8 and 9 are written into a buffer of 78 + 8N bytes or more
-  pub writes : (room : ℕ) → first_holding (handed_tests f x y) ≡ 0 → 78 + 8 * length x ≤ room
-      → written_of f x y room ≡ record { number = 0; length = 78 + 8 * length x }
+  pub writes : (room : ℕ) → Loaded t → first_holding (handed_tests t f x y) ≡ 0 → 78 + 8 * length x ≤ room
+      → written_of t f x y room ≡ record { number = 0; length = 78 + 8 * length x }
   unfolding written_of
-  writes room h l = simp (nothing room h l, size_is_n)
+  writes room loads h l = simp (nothing room loads h l, size_is_n)
 
   -- ---- what was written reads back
-  module _ (buffer : List ℕ) (h : writer_number f x y (length buffer) ≡ 0) where
-    made_is : record_made f x y buffer ≡ bytes_of v
+  module _ (buffer : List ℕ) (h : writer_number t f x y (length buffer) ≡ 0) where
+    made_is : record_made t f x y buffer ≡ bytes_of v
     unfolding written_of buffer_after
     made_is = simp h (take-append_seam (bytes_of v) (drop size buffer))
 
@@ -139,19 +146,20 @@ module _ (f : Fields) (x y : List ℤ) where
         (and-eq-true_iff (is_unsigned f.version) (is_version (nat_abs f.version))).0
         (not-false (is_unsigned f.version && is_version (nat_abs f.version)) (clear (length buffer) h).version)
 
-    values_are : values_of (record_made f x y buffer) ≡ v
+    values_are : values_of (record_made t f x y buffer) ≡ v
     values_are =
         let c = clear (length buffer) h in
-        ap values_of made_is ∙ values_back v (clean_from f x y c.alike (lists_within f x y c.unsigned c.within)) c.within
+        ap values_of made_is ∙ values_back t v (clean_from f x y c.alike (lists_within t (right.sound c.loads) f x y c.unsigned c.within)) c.within
 
-    pub reads_back : ReadsBack (record_made f x y buffer) f x y
+    pub reads_back : ReadsBack t (record_made t f x y buffer) f x y
     unfolding values_from marks_of
     reads_back =
         let c = clear (length buffer) h in
         record {
           passes =
-              ap refusal_number made_is
-              ∙ passes v (clean_from f x y c.alike (lists_within f x y c.unsigned c.within)) c.within known.1 c.outlines c.force;
+              ap (refusal_number t) made_is
+              ∙ passes t v (clean_from f x y c.alike (lists_within t (right.sound c.loads) f x y c.unsigned c.within)) c.within right c.loads
+              known.1 c.outlines c.force;
           fields = ap fields_of values_are ∙ fields_back f x y known.0 c.unsigned;
           number = ap (λ (w : Values). w.positions.n) values_are;
           x_places = ap (λ (w : Values). w.positions.x) values_are;
@@ -161,18 +169,18 @@ module _ (f : Fields) (x y : List ℤ) where
 
   -- ---- two buffers of one length get the same record
   pub buffer_blind : (b c : List ℕ) → length b ≡ length c
-      → (written_of f x y (length b) ≡ written_of f x y (length c)) × (record_made f x y b ≡ record_made f x y c)
+      → (written_of t f x y (length b) ≡ written_of t f x y (length c)) × (record_made t f x y b ≡ record_made t f x y c)
   unfolding written_of buffer_after
-  buffer_blind b c e = (ap (written_of f x y) e, of (eqb (writer_number f x y (length b)) 0) refl)
+  buffer_blind b c e = (ap (written_of t f x y) e, of (eqb (writer_number t f x y (length b)) 0) refl)
     where
-      of : (t : Bool) → eqb (writer_number f x y (length b)) 0 ≡ t → record_made f x y b ≡ record_made f x y c
+      of : (d : Bool) → eqb (writer_number t f x y (length b)) 0 ≡ d → record_made t f x y b ≡ record_made t f x y c
       of true h =
           let z = eqb-true _ 0 h in
-          made_is b z ∙ sym (made_is c (ap (writer_number f x y) (sym e) ∙ z))
-      of false h = let g : eqb (writer_number f x y (length c)) 0 ≡ false = ap (λ (n : ℕ). eqb (writer_number f x y n) 0) (sym e) ∙ h in simp (h, g)
+          made_is b z ∙ sym (made_is c (ap (writer_number t f x y) (sym e) ∙ z))
+      of false h = let g : eqb (writer_number t f x y (length c)) 0 ≡ false = ap (λ (n : ℕ). eqb (writer_number t f x y n) 0) (sym e) ∙ h in simp (h, g)
 
 -- ---- a record that passes 1 to 9, read and written again
-module _ (s : List ℕ) (h : refusal_number s ≡ 0) where
+module _ (t : Table) (right : Right t) (s : List ℕ) (h : refusal_number t s ≡ 0) where
   abbrev w : Values
   w = values_of s
 
@@ -181,26 +189,26 @@ module _ (s : List ℕ) (h : refusal_number s ≡ 0) where
     four : refusal4 s ≡ false
     five : refusal5 s ≡ false
     six : refusal6 s ≡ false
-    within : fields_within w ≡ true
+    within : fields_within t w ≡ true
     outlines : empty_outlines w.members ≡ false
     force : no_force w.loads ≡ false
 
   read : Read
-  unfolding refusal_number numbered refusal2 values_of
+  unfolding numbered refusal2 values_of
   read =
-      let n = no_number (script_tests s ++ designer_tests s) refl h in
+      let n = no_number (record_tests t s) refl (unrefused t right s h).1 in
       record {
         version = not-false (is_version w.version) (n.none 1);
         four = n.none 3;
         five = n.none 4;
         six = n.none 5;
-        within = not-false (fields_within w) (n.none 6);
+        within = not-false (fields_within t w) (n.none 6);
         outlines = n.none 7;
         force = n.none 8;
       }
 
   few : w.positions.n ≤ 64
-  few = (fields_hold w (ap not read.within)).dowels_high
+  few = (fields_hold t w (ap not read.within)).dowels_high
 
   as_long : length s ≡ 78 + 8 * w.positions.n
   unfolding values_of positions_in
@@ -238,7 +246,7 @@ module _ (s : List ℕ) (h : refusal_number s ≡ 0) where
   no_sign : (n : ℕ) → is_unsigned (pos n) ≡ true
   no_sign n = le-leb 0 n (omega arith)
 
-  handed : first_holding (handed_tests (fields_of w) (x_of w) (y_of w)) ≡ 0
+  handed : first_holding (handed_tests t (fields_of w) (x_of w) (y_of w)) ≡ 0
   unfolding first_holding version_unknown fields_unsigned member_unsigned fields_of
   handed =
       simp (
@@ -252,11 +260,11 @@ module _ (s : List ℕ) (h : refusal_number s ≡ 0) where
       )
 
   pub written_again : (buffer : List ℕ) → length s ≤ length buffer
-      → (writer_number (fields_of w) (x_of w) (y_of w) (length buffer) ≡ 0)
-      × (reading_of (record_made (fields_of w) (x_of w) (y_of w) buffer) ≡ reading_of s)
+      → (writer_number t (fields_of w) (x_of w) (y_of w) (length buffer) ≡ 0)
+      × (reading_of t (record_made t (fields_of w) (x_of w) (y_of w) buffer) ≡ reading_of t s)
   unfolding reading_of
   written_again buffer l =
-      let z = nothing (fields_of w) (x_of w) (y_of w) (length buffer) handed (rw (lengths.0, ← as_long) l) in
-      let p = (reads_back (fields_of w) (x_of w) (y_of w) buffer z).passes in
-      let e = values_are (fields_of w) (x_of w) (y_of w) buffer z ∙ values_again in
+      let z = nothing t right (fields_of w) (x_of w) (y_of w) (length buffer) (unrefused t right s h).0 handed (rw (lengths.0, ← as_long) l) in
+      let p = (reads_back t right (fields_of w) (x_of w) (y_of w) buffer z).passes in
+      let e = values_are t right (fields_of w) (x_of w) (y_of w) buffer z ∙ values_again in
       (z, simp (p, h, e))

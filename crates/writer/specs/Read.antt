@@ -2,6 +2,7 @@
 use Rattle.std.specs.Prelude.{ℕ, ◌≡◌, List, length, take, replicate, ℤ, pos}
 use Rattle.joint.specs.declared.Member.{Member}
 use Rattle.joint.specs.declared.Values.{Values}
+use Rattle.tables.specs.Table.{Table}
 use Rattle.joint.specs.Layout.{values_of}
 use Rattle.joint.specs.Refusal.{refusal_number}
 use Rattle.writer.specs.declared.MemberFields.{MemberFields}
@@ -81,9 +82,9 @@ x_of v = take v.positions.n v.positions.x
 abbrev pub y_of : Values → List ℤ
 y_of v = take v.positions.n v.positions.y
 
--- ---- what is promised of a record that was made from a firm's numbers
-pub record ReadsBack (made : List ℕ) (f : Fields) (x y : List ℤ) : Type 0 where
-  pub passes : refusal_number made ≡ 0
+-- ---- what is promised of a record that was made from a firm's numbers, read by the same table
+pub record ReadsBack (t : Table) (made : List ℕ) (f : Fields) (x y : List ℤ) : Type 0 where
+  pub passes : refusal_number t made ≡ 0
   pub fields : fields_of (values_of made) ≡ normal f
   pub number : (values_of made).positions.n ≡ length x
   pub x_places : (values_of made).positions.x ≡ placed x

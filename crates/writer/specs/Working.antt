@@ -1,4 +1,4 @@
--- Nobody needs to believe this: what the writer's steps hand to one another. `write` is equal to `written_of` and `buffer_after`.
+-- Nobody needs to believe this: what the writer's steps hand to one another. `write_with` is equal to `written_of` and `buffer_after`.
 use Rattle.std.specs.Prelude.{Bool, cond, ◌&&◌, ℤ, pos, Option, Some, None}
 use Rattle.numbers.specs.Numbers.{between_z}
 use Rattle.writer.specs.declared.MemberFields.{MemberFields}

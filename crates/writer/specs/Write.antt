@@ -1,4 +1,5 @@
--- The writer (02, A2): what a firm hands over as the record's values, which refusal that has, and what stands in the buffer afterwards.
+-- The writer (02, A2): what a firm hands over as the record's values, which refusal that has by a table of classes (A4), and what stands in the
+-- buffer afterwards.
 use Rattle.std.specs.Prelude.{ℕ, ◌≡◌, List, [], ◌∷◌, ◌++◌, Bool, cond, not, ◌&&◌, ltb, eqb, length, get_or, take, drop, ℤ, pos, nat_abs}
 use Rattle.std.specs.Int.Signed.{le_z}
 use Rattle.codes.specs.Tables.{is_version}
@@ -9,7 +10,8 @@ use Rattle.joint.specs.declared.Positions.{Positions}
 use Rattle.joint.specs.declared.Loads.{Loads}
 use Rattle.joint.specs.declared.Values.{Values}
 use Rattle.joint.specs.Layout.{column, bytes_of}
-use Rattle.joint.specs.Refusal.{Test, test, first_holding}
+use Rattle.tables.specs.Tests.{Test, test, first_holding}
+use Rattle.tables.specs.Table.{Table}
 use Rattle.joint.specs.Refusal.{value_tests}
 use Rattle.writer.specs.declared.MemberFields.{MemberFields}
 use Rattle.writer.specs.declared.Fields.{Fields}
@@ -80,42 +82,46 @@ abbrev pub lists_alike : List ℤ → List ℤ → Bool
 lists_alike x y = eqb (length x) (length y)
 
 -- 'It tests values for 7, 8 and 9 first', by the reader's own tests; 'hold not 1 to 64 numbers' is among them
-abbrev pub handed_tests : Fields → List ℤ → List ℤ → List Test
-handed_tests f x y =
-    test 2 (version_unknown f) ∷ test 7 (not (fields_unsigned f && lists_alike x y)) ∷ value_tests (values_from f x y)
+abbrev pub handed_tests : Table → Fields → List ℤ → List ℤ → List Test
+handed_tests t f x y =
+    test 2 (version_unknown f) ∷ test 7 (not (fields_unsigned f && lists_alike x y)) ∷ value_tests t (values_from f x y)
 
 -- '13, the buffer is shorter than the record, tested after 9': `room` is the buffer's length
-unfoldable pub writer_tests : Fields → List ℤ → List ℤ → ℕ → List Test
-writer_tests f x y room = handed_tests f x y ++ test 13 (ltb room (length (bytes_of (values_from f x y)))) ∷ []
+unfoldable pub own_tests : Table → Fields → List ℤ → List ℤ → ℕ → List Test
+own_tests t f x y room = handed_tests t f x y ++ test 13 (ltb room (length (bytes_of (values_from f x y)))) ∷ []
+
+-- A4: 'a record .. written with a table that did not load gets the same refusal, before any test of its own'
+abbrev pub writer_tests : Table → Fields → List ℤ → List ℤ → ℕ → List Test
+writer_tests t f x y room = t.tests ++ own_tests t f x y room
 
 -- ---- the answer: a refusal and length 0; or number 0 and how many bytes the record has
 pub record Written : Type 0 where
   pub number : ℕ
   pub length : ℕ
 
-unfoldable pub writer_number : Fields → List ℤ → List ℤ → ℕ → ℕ
-writer_number f x y room = first_holding (writer_tests f x y room)
+unfoldable pub writer_number : Table → Fields → List ℤ → List ℤ → ℕ → ℕ
+writer_number t f x y room = first_holding (writer_tests t f x y room)
 
 -- 'reports the length'; 'on refusal all stay and the length is 0'
-unfoldable pub written_of : Fields → List ℤ → List ℤ → ℕ → Written
-written_of f x y room =
+unfoldable pub written_of : Table → Fields → List ℤ → List ℤ → ℕ → Written
+written_of t f x y room =
     record {
-      number = writer_number f x y room;
-      length = cond (eqb (writer_number f x y room) 0) (length (bytes_of (values_from f x y))) 0;
+      number = writer_number t f x y room;
+      length = cond (eqb (writer_number t f x y room) 0) (length (bytes_of (values_from f x y))) 0;
     }
 
 -- 'Bytes past the reported length stay'
-unfoldable pub buffer_after : Fields → List ℤ → List ℤ → List ℕ → List ℕ
-buffer_after f x y buffer =
-    cond (eqb (writer_number f x y (length buffer)) 0)
+unfoldable pub buffer_after : Table → Fields → List ℤ → List ℤ → List ℕ → List ℕ
+buffer_after t f x y buffer =
+    cond (eqb (writer_number t f x y (length buffer)) 0)
     (bytes_of (values_from f x y) ++ drop (length (bytes_of (values_from f x y))) buffer)
     buffer
 
 -- the record that was made: as many of the buffer's first bytes as were reported
-abbrev pub record_made : Fields → List ℤ → List ℤ → List ℕ → List ℕ
-record_made f x y buffer = take (written_of f x y (length buffer)).length (buffer_after f x y buffer)
+abbrev pub record_made : Table → Fields → List ℤ → List ℤ → List ℕ → List ℕ
+record_made t f x y buffer = take (written_of t f x y (length buffer)).length (buffer_after t f x y buffer)
 
--- what `write` promises: its answer, and every byte of the buffer
-pub record Wrote (f : Fields) (x y : List ℤ) (before after : List ℕ) (r : Written) : Type 0 where
-  pub answer : r ≡ written_of f x y (length before)
-  pub buffer : after ≡ buffer_after f x y before
+-- what `write_with` promises, and `write` at the printed table: its answer, and every byte of the buffer
+pub record Wrote (t : Table) (f : Fields) (x y : List ℤ) (before after : List ℕ) (r : Written) : Type 0 where
+  pub answer : r ≡ written_of t f x y (length before)
+  pub buffer : after ≡ buffer_after t f x y before

@@ -1,7 +1,9 @@
-// Writes a joint record from its values (02, A2), and hands a record's values on as the numbers that the writer takes.
+// Writes a joint record from its values (02, A2), by the printed table of classes or by the table that a call names (A4), and hands a record's
+// values on as the numbers that the writer takes.
 #![tactic(auto)]
 
 ghost use Rattle.std.specs.Prelude.{◌≡◌};
+ghost use Rattle.tables.specs.Table.{printed, table_of};
 ghost use Rattle.writer.specs.Write.{Wrote};
 ghost use Rattle.writer.specs.Told.{told};
 
@@ -13,6 +15,7 @@ use joint::limits::check_values;
 use joint::places::POSITION_BYTES;
 use joint::refusals::Refusal;
 use put::put_record;
+use tables::Source;
 
 // Bytes of a record without dowels.
 const RECORD_BYTES: usize = 78;
@@ -47,9 +50,10 @@ pub struct Fields {
     pub fy: i32,
 }
 
-// Why a record is not written: a refusal of its values, or a buffer that is shorter than the record.
+// Why a record is not written: the table of classes is turned away, the values are, or the buffer is shorter than the record.
 #[derive(Clone, Copy, PartialEq, Eq, Debug)]
 pub enum Unwritten {
+    Table(tables::Refusal),
     Values(Refusal),
     BufferTooShort,
 }
@@ -57,14 +61,25 @@ pub enum Unwritten {
 impl Unwritten {
     ghost use Rattle.writer.specs.Told.{number_of};
 
-    // A refusal of the values keeps its number, and the writer has one of its own.
+    // A refusal of the table or of the values keeps its number, and the writer has one of its own.
     pub fn number(self) -> u8
         ensures { result ≡ number_of self }
     {
         match self {
+            Unwritten::Table(refusal) => refusal.number(),
             Unwritten::Values(refusal) => refusal.number(),
             Unwritten::BufferTooShort => 13,
         }
+    }
+}
+
+impl From<tables::Refusal> for Unwritten {
+    ghost use Rattle.writer.specs.declared.Unwritten.TheVariants.{Table};
+
+    ghost from_gives = { λ refusal r. r ≡ Table refusal };
+
+    fn from(refusal: tables::Refusal) -> Unwritten {
+        Unwritten::Table(refusal)
     }
 }
 
@@ -78,10 +93,37 @@ impl From<Refusal> for Unwritten {
     }
 }
 
-// Writes the record of a firm's numbers, in the version that they name, into the buffer's first bytes and reports how many. The tests of a
-// record's values come first, and then whether the buffer is long enough; on refusal the buffer stays as it is. Version 1 has no marks, and
-// they are not looked at. A list for each of x, y and marks, since C lends them so.
-#[tactic(auto, using(crate::proofs::Steps::put_given))]
+// Writes the record of a firm's numbers, in the version that they name, into the buffer's first bytes and reports how many. A table that is
+// turned away refuses the values before any test of their own; then come the tests of a record's values, and then whether the buffer is long
+// enough; on refusal the buffer stays as it is. Version 1 has no marks, and they are not looked at. A list for each of x, y and marks, since C
+// lends them so. Why the hint: `negwishal::write_by` says it.
+#[inline(always)]
+pub fn write_with(
+    table: Source,
+    f: &Fields,
+    x: &[i32],
+    y: &[i32],
+    marks: &[i32],
+    buffer: &mut [u8],
+) -> Result<usize, Unwritten>
+    ensures { Wrote (table_of table.entry) f.now x.now y.now buffer.old buffer.new (told result) }
+{
+    table.load()?;
+    let version = check::known_version(f).ok_or(Refusal::OtherVersion)?;
+    if y.len() != x.len() || MOST_DOWELS < x.len() {
+        return Err(Refusal::FieldOutside.into());
+    }
+    let values = check::values_from(version, f, x, y).ok_or(Refusal::FieldOutside)?;
+    check_values(table, &values)?;
+    let length = RECORD_BYTES + POSITION_BYTES * x.len();
+    if buffer.len() < length {
+        return Err(Unwritten::BufferTooShort);
+    }
+    put_record(buffer, &values);
+    Ok(length)
+}
+
+// Writes the record by the printed table.
 pub fn write(
     f: &Fields,
     x: &[i32],
@@ -89,18 +131,7 @@ pub fn write(
     marks: &[i32],
     buffer: &mut [u8],
 ) -> Result<usize, Unwritten>
-    ensures { Wrote f.now x.now y.now buffer.old buffer.new (told result) }
+    ensures { Wrote printed f.now x.now y.now buffer.old buffer.new (told result) }
 {
-    let version = check::known_version(f).ok_or(Refusal::OtherVersion)?;
-    if y.len() != x.len() || MOST_DOWELS < x.len() {
-        return Err(Refusal::FieldOutside.into());
-    }
-    let values = check::values_from(version, f, x, y).ok_or(Refusal::FieldOutside)?;
-    check_values(&values)?;
-    let length = RECORD_BYTES + POSITION_BYTES * x.len();
-    if buffer.len() < length {
-        return Err(Unwritten::BufferTooShort);
-    }
-    put_record(buffer, &values);
-    Ok(length)
+    write_with(Source::Printed, f, x, y, marks, buffer)
 }
