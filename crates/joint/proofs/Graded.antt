@@ -1,6 +1,6 @@
 -- Joints by a firm's own table follow from the definitions: every report for which the top claim holds says what stands beside them.
-use Prim.Native.Nat.{ℕ}
-use mathlib.Core.Path.{◌≡◌, refl, sym, ap, ◌∙◌, subst}
+use Prim.Native.Nat.{ℕ, ◌+◌}
+use mathlib.Core.Path.{◌≡◌, refl, ap, ◌∙◌, subst}
 use mathlib.Core.List.{List, [], ◌∷◌, map}
 use native.Mathlib.Nat.{not-le_of_lt}
 use native.Mathlib.Omega.{arith}
@@ -31,11 +31,10 @@ use Rattle.joint.specs.DesignOf.{plane_in, design_of}
 use Rattle.joint.specs.Use.{Answered}
 use Rattle.joint.specs.Claim.{Judged}
 use Rattle.joint.specs.Returned.{Passed}
-use Rattle.joint.specs.Starred.{SaysSo, Graded, one_class, graded, AllGraded}
+use Rattle.joint.specs.Starred.{CarriesAs, Graded, one_class, graded, AllGraded}
 use Rattle.joint.specs.Starred.Prints.{no_refusal}
 use Rattle.joint.proofs.Claims.{accepted_passed}
-use Rattle.joint.proofs.Meaning.{no_refusal_lem}
-use Rattle.joint.proofs.Stars.{none, four_dowels, capacity_two, refused_row}
+use Rattle.joint.proofs.Stars.{none, four_dowels, capacity_two, refused_row, accepted_row}
 
 -- ---- the refusal of each
 abbrev refusals : List Fault
@@ -87,6 +86,16 @@ module _ (table bytes : List ℕ) (a : refusal_of (own_table table) bytes ≡ no
   answered_as : (r : Report) → Judged (own_table table) bytes r → Answered (design_of (own_table table) wide) r
   answered_as r j = subst (λ (w : Values). Answered (design_of (own_table table) w) r) e (j.accepted (ap (λ (f : Fault). f.number) a))
 
+  -- c + 1 passes and c + 2 fails, so it carries c or one more
+  carried :
+      (c : ℕ) → AtMostR (design_of (own_table table) wide).plane (whole (c + 1)) →
+      (AtMostR (design_of (own_table table) wide).plane (whole (c + 2)) → ⊥) → (r : Report) → Judged (own_table table) bytes r →
+      CarriesAs c (c + 1) r
+  carried c passes fails r j = record {
+    number = j.number ∙ ap (λ (f : Fault). f.number) a;
+    capacity = capacity_two passed c r.capacity passes fails (answered_as r j).capacity;
+  }
+
 -- at most R, with class 1 of a kind
 abbrev AtMost : ℕ → Fraction → Type 0
 AtMost kind = AtMostR (design_of (own_table (one_class 1 kind)) wide).plane
@@ -107,39 +116,13 @@ softwood_fails : AtMost 0 (whole 9647) → ⊥
 unfolding plane_in bearing class_in entries_in steel_of
 softwood_fails p = not-le_of_lt (lit< tt) p.first
 
-abbrev Holds : Graded → Type 0
-Holds g = (r : Report) → Judged (own_table g.table) g.bytes r → SaysSo g.prints r
-
-as_hardwood : Holds (at 0)
-as_hardwood r j =
-    let t = one_class 1 1 in
-    let h = answered_as t (at 0).bytes (refusal_at 0) wide_read.0 r j in
-    record {
-      number = j.number ∙ ap (λ (f : Fault). f.number) (refusal_at 0);
-      capacity = capacity_two (passed t (at 0).bytes (refusal_at 0) wide_read.0) 11480 r.capacity hardwood_passes hardwood_fails h.capacity;
-    }
-
-as_softwood : Holds (at 1)
-as_softwood r j =
-    let t = one_class 1 0 in
-    let h = answered_as t (at 1).bytes (refusal_at 1) wide_read.1 r j in
-    record {
-      number = j.number ∙ ap (λ (f : Fault). f.number) (refusal_at 1);
-      capacity = capacity_two (passed t (at 1).bytes (refusal_at 1) wide_read.1) 9645 r.capacity softwood_passes softwood_fails h.capacity;
-    }
-
-class_200 : Holds (at 2)
-class_200 r j =
-    let a = ap (λ (f : Fault). f.number) (refusal_at 2) in
-    record { verdict = λ e. no_refusal_lem r.usage (sym (j.accepted a).verdict ∙ e); number = j.number ∙ a }
-
 pub all_graded : AllGraded graded
 all_graded = (
-  as_hardwood,
+  carried (one_class 1 1) (at 0).bytes (refusal_at 0) wide_read.0 11480 hardwood_passes hardwood_fails,
   (
-    as_softwood,
+    carried (one_class 1 0) (at 1).bytes (refusal_at 1) wide_read.1 9645 softwood_passes softwood_fails,
     (
-      class_200,
+      accepted_row _ (refusal_at 2),
       (
         refused_row _ _ (refusal_at 3) (λ e. omega arith),
         (refused_row _ _ (refusal_at 4) (λ e. omega arith), (refused_row _ _ (refusal_at 5) (λ e. omega arith), tt)),

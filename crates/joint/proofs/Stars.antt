@@ -39,7 +39,7 @@ use Rattle.joint.specs.DesignOf.{plane_in, plane_of, design_of}
 use Rattle.joint.specs.Use.{Above0, plane_force, row_force, Enough, CapacityBracket, ShareBracket, UseBracket, Answered}
 use Rattle.joint.specs.Claim.{Judged}
 use Rattle.joint.specs.Returned.{Passed}
-use Rattle.joint.specs.Starred.{RefusedAs, Within, SaysSo, Starred, starred, AllHold}
+use Rattle.joint.specs.Starred.{PassesAs, RefusedAs, Within, SaysSo, Starred, starred, AllHold}
 use Rattle.joint.specs.Starred.Prints.{no_refusal}
 use Rattle.joint.proofs.EnoughLaws.{RowBy, enough_up, enough_by}
 use Rattle.joint.proofs.Answers.{plane, sound}
@@ -142,6 +142,12 @@ refused_row bytes f e n r j = record {
   first = j.first ∙ ap (λ (g : Fault). g.first) e;
   second = j.second ∙ ap (λ (g : Fault). g.second) e;
 }
+
+pub accepted_row :
+    {t : Table} (bytes : List ℕ) → refusal_of t bytes ≡ none → (r : Report) → Judged t bytes r → PassesAs r
+accepted_row bytes e r j =
+    let a = ap (λ (f : Fault). f.number) e in
+    record { verdict = λ v. no_refusal_lem r.usage (sym (j.accepted a).verdict ∙ v); number = j.number ∙ a }
 
 -- ---- judged stars: from the claim and a few tests at numerals to 01's ranges
 not_more : (a b : ℕ) → (b + 1 ≤ a → ⊥) → a ≤ b
@@ -452,11 +458,6 @@ star_lone r j =
           (record { number = lit≤ tt; several = λ m. absurd (omega arith) }) (λ q. not-le_of_lt (lit< tt) q.number) h.share;
     }
 
-star_504 : Holds (star 9)
-star_504 r j =
-    let a = ap (λ (f : Fault). f.number) (refusal_at 9) in
-    record { verdict = λ e. no_refusal_lem r.usage (sym (j.accepted a).verdict ∙ e); number = j.number ∙ a }
-
 star_oak : Holds (star 11)
 unfolding kmod_of
 star_oak r j =
@@ -511,7 +512,7 @@ stars = (
               star_200,
               (
                 refused_row _ _ (refusal_at 7) (λ e. omega arith),
-                (star_lone, (star_504, (refused_row _ _ (refusal_at 10) (λ e. omega arith), (star_oak, (star_mixed, tt))))),
+                (star_lone, (accepted_row _ (refusal_at 9), (refused_row _ _ (refusal_at 10) (λ e. omega arith), (star_oak, (star_mixed, tt))))),
               ),
             ),
           ),
