@@ -1,7 +1,11 @@
 /* Times the entries of negwishal.h against a floating-point and, with WITH_GMP, an exact version of the same jobs,
- * without and with a table of classes, holds their answers to one another, and measures the stack.  bench [FILE..]: the
- * records in the files are compared too, by every table; a file whose name ends in .tab is one table more. */
+ * without and with a table of classes, and those for whole square roots, holds their answers to one another, and
+ * measures the stack.  bench [--builds OTHER OURS].. [FILE..]: the records in the files are compared too, by every
+ * table; a file whose name ends in .tab is one table more.  OTHER and OURS are shared objects of two builds of the
+ * library: judging by the one is timed against judging by the other, and their reports are compared; of several pairs
+ * each has the code in another place. */
 #define _GNU_SOURCE
+#include <dlfcn.h>
 #include <inttypes.h>
 #include <pthread.h>
 #include <stdio.h>
@@ -17,6 +21,8 @@
 #define TIMED 7
 #define JOINTS 8 /* the timed ones, and one that is not timed */
 #define TABLED 3 /* joint B, timed by three tables */
+#define THICK 2  /* joints that are timed with many thicknesses of member 1 */
+#define THICKNESSES 100
 
 static const struct {
     const char *name;
@@ -27,12 +33,16 @@ static const struct {
     judge_with_fn *judge_with;
     write_with_fn *write_with;
     read_with_fn *read_with;
+    root_fn *root_bracket;
+    root_fn *whole_root;
 } VERSION[] = {
     {"proved", negwishal_judge, negwishal_write, negwishal_read, negwishal_load, negwishal_judge_with,
-     negwishal_write_with, negwishal_read_with},
-    {"float", float_judge, float_write, float_read, float_load, float_judge_with, float_write_with, float_read_with},
+     negwishal_write_with, negwishal_read_with, negwishal_root_bracket, negwishal_whole_root},
+    {"float", float_judge, float_write, float_read, float_load, float_judge_with, float_write_with, float_read_with,
+     float_root_bracket, float_whole_root},
 #ifdef WITH_GMP
-    {"GMP", exact_judge, exact_write, exact_read, exact_load, exact_judge_with, exact_write_with, exact_read_with},
+    {"GMP", exact_judge, exact_write, exact_read, exact_load, exact_judge_with, exact_write_with, exact_read_with,
+     exact_root_bracket, exact_whole_root},
 #endif
 };
 enum { VERSIONS = sizeof VERSION / sizeof VERSION[0] };
@@ -331,6 +341,25 @@ static void write_tabled(struct record r[TABLED], const struct record *b)
     set_classes(&r[2], 255, 255);
 }
 
+/* Joint B, and one of unlike classes with crossed grains and one shear plane, with member 1 40 mm thick and more. */
+static void write_thick(struct record r[THICK][THICKNESSES], const struct record *b)
+{
+    static const int32_t mixed[2][7] = {
+        {4, 0, 400, -2000, -2000, 20000, 8000},
+        {9, 1, 700, -2000, -20000, 8000, 8000}};
+    static const int32_t four[4][2] = {{0, 0}, {650, 0}, {0, 610}, {650, 610}};
+    r[0][0] = *b;
+    r[0][0].name = "one joint, 100 thicknesses of member 1";
+    write_record(&r[1][0], "one joint, 100 thicknesses of member 1, p = 1", 0, 1, mixed, 12, 1, 4, four, 6000, -8500);
+    for (int k = 0; k < THICK; k++)
+        for (unsigned i = 0; i < THICKNESSES; i++) {
+            unsigned thickness = 400 + 20 * i;
+            r[k][i] = r[k][0];
+            r[k][i].bytes[24] = (uint8_t)thickness;
+            r[k][i].bytes[25] = (uint8_t)(thickness >> 8);
+        }
+}
+
 static double now_ns(void)
 {
     struct timespec t;
@@ -355,12 +384,48 @@ static inline __attribute__((always_inline)) void call(enum job job, int version
         read_by(version, r, &out);
 }
 
-static double batch(enum job job, int version, const struct record *r, long calls)
+/* What is timed: an entry, called with each of so many records or numbers, and again, round after round. */
+struct timed {
+    const char *name;
+    void (*rounds)(const struct timed *t, long rounds);
+    int many;
+    const struct record *records;
+    enum job job;
+    int version;
+    judge_fn *judge; /* of one of two builds */
+    const uint64_t *numbers;
+    root_fn *root;
+    long rounds_a_batch;
+    double ns[BATCHES]; /* a call */
+};
+
+static void do_job(const struct timed *t, long rounds)
+{
+    for (long i = 0; i < rounds; i++)
+        for (int k = 0; k < t->many; k++)
+            call(t->job, t->version, &t->records[k]);
+}
+
+static void judge_by_build(const struct timed *t, long rounds)
+{
+    for (long i = 0; i < rounds; i++)
+        for (int k = 0; k < t->many; k++)
+            t->judge(t->records[k].bytes, t->records[k].length, report, 8);
+}
+
+static void find_roots(const struct timed *t, long rounds)
+{
+    for (long i = 0; i < rounds; i++)
+        for (int k = 0; k < t->many; k++)
+            t->root(t->numbers[k], report, 8);
+}
+
+/* Nanoseconds a round. */
+static double batch(const struct timed *t, long rounds)
 {
     double start = now_ns();
-    for (long i = 0; i < calls; i++)
-        call(job, version, r);
-    return (now_ns() - start) / (double)calls;
+    t->rounds(t, rounds);
+    return (now_ns() - start) / (double)rounds;
 }
 
 static int order(const void *a, const void *b)
@@ -369,28 +434,37 @@ static int order(const void *a, const void *b)
     return (x > y) - (x < y);
 }
 
-/* Median nanoseconds a call; the records, up to TABLED, the jobs and the versions take turns, batch by batch. */
-static void time_records(const struct record *r, int records, double median[][JOBS][VERSIONS])
+/* They take turns, batch by batch. */
+static void time_in_turn(struct timed *t, int many)
 {
-    static double ns[TABLED][JOBS][VERSIONS][BATCHES];
-    long calls[TABLED][JOBS][VERSIONS];
-    for (int i = 0; i < records; i++)
-        for (int j = 0; j < JOBS; j++)
-            for (int v = 0; v < VERSIONS; v++) {
-                batch(j, v, &r[i], 50);
-                calls[i][j][v] = 1 + (long)(BATCH_NS / batch(j, v, &r[i], 50));
-            }
+    for (int i = 0; i < many; i++) {
+        batch(&t[i], 50);
+        t[i].rounds_a_batch = 1 + (long)(BATCH_NS / batch(&t[i], 50));
+    }
     for (int k = 0; k < BATCHES; k++)
-        for (int j = 0; j < JOBS; j++)
-            for (int v = 0; v < VERSIONS; v++)
-                for (int i = 0; i < records; i++)
-                    ns[i][j][v][k] = batch(j, v, &r[i], calls[i][j][v]);
-    for (int i = 0; i < records; i++)
-        for (int j = 0; j < JOBS; j++)
-            for (int v = 0; v < VERSIONS; v++) {
-                qsort(ns[i][j][v], BATCHES, sizeof ns[i][j][v][0], order);
-                median[i][j][v] = ns[i][j][v][BATCHES / 2];
-            }
+        for (int i = 0; i < many; i++)
+            t[i].ns[k] = batch(&t[i], t[i].rounds_a_batch) / t[i].many;
+    for (int i = 0; i < many; i++)
+        qsort(t[i].ns, BATCHES, sizeof t[i].ns[0], order);
+}
+
+static double median(const struct timed *t) { return t->ns[BATCHES / 2]; }
+
+/* Median nanoseconds a call; the records, up to TABLED, the jobs and the versions take turns. */
+static void time_records(const struct record *r, int records, double ns[][JOBS][VERSIONS])
+{
+    static struct timed timed[TABLED * JOBS * VERSIONS];
+    struct timed *t = timed;
+    for (int j = 0; j < JOBS; j++)
+        for (int v = 0; v < VERSIONS; v++)
+            for (int i = 0; i < records; i++)
+                *t++ = (struct timed){.rounds = do_job, .many = 1, .records = &r[i], .job = j, .version = v};
+    time_in_turn(timed, (int)(t - timed));
+    t = timed;
+    for (int j = 0; j < JOBS; j++)
+        for (int v = 0; v < VERSIONS; v++)
+            for (int i = 0; i < records; i++)
+                ns[i][j][v] = median(t++);
 }
 
 /* Whether two answers can both be right: the same refusal; C and E at most 1 apart; U at most 0.5 % and 2 apart. */
@@ -578,6 +652,95 @@ static void compare_loadings(const struct record *b, struct tally *tally)
             }
 }
 
+/* The joints with many thicknesses. */
+static int compare_thick(const struct record thick[THICK][THICKNESSES])
+{
+    struct tally tally = {0, 0, 0};
+    uint64_t reports[VERSIONS][8];
+    for (int k = 0; k < THICK; k++)
+        for (int i = 0; i < THICKNESSES; i++) {
+            int good = judged_alike(&thick[k][i], reports);
+            if (!good)
+                print_reports("another thickness", reports, good);
+            count(&tally, reports[0][1], !good);
+        }
+    return print_tally(&tally, "joints of other thicknesses judged, read and written again");
+}
+
+/* ---- whole square roots */
+
+/* Numbers without a pattern, the same in each run (xorshift). */
+static uint64_t any_number(void)
+{
+    static uint64_t state = UINT64_C(0x9e3779b97f4a7c15);
+    state ^= state << 13;
+    state ^= state >> 7;
+    return state ^= state << 17;
+}
+
+/* One of 1 to 64 bits. */
+static uint64_t any_of_bits(unsigned bits) { return (any_number() | UINT64_C(1) << 63) >> (64 - bits); }
+
+/* What the two entries for roots leave, and what they return. */
+struct rooted {
+    uint64_t bracket[4], root[4], codes[2];
+};
+
+static void print_rooted(uint64_t n, size_t room, const struct rooted r[VERSIONS])
+{
+    printf("root of %" PRIu64 ", %zu numbers for the answer: DIFFER\n", n, room);
+    for (int v = 0; v < VERSIONS; v++)
+        printf("%10s: from %" PRIu64 " %" PRIu64 ", root %" PRIu64 " in %" PRIu64 "; %" PRIu64 " and %" PRIu64 "\n",
+               VERSION[v].name, r[v].bracket[0], r[v].bracket[1], r[v].root[0], r[v].root[1], r[v].codes[0],
+               r[v].codes[1]);
+}
+
+static void compare_root(uint64_t n, size_t room, struct tally *tally)
+{
+    struct rooted r[VERSIONS];
+    int bad = 0;
+    for (int v = 0; v < VERSIONS; v++) {
+        memset(&r[v], 0x5a, sizeof r[v]);
+        r[v].codes[0] = VERSION[v].root_bracket(n, r[v].bracket, room);
+        r[v].codes[1] = VERSION[v].whole_root(n, r[v].root, room);
+        bad += memcmp(&r[0], &r[v], sizeof r[v]) != 0;
+    }
+    if (bad != 0 && tally->bad < 5)
+        print_rooted(n, room, r);
+    count(tally, r[0].codes[0], bad != 0);
+}
+
+/* A number and its neighbours; those of 0 and of the greatest are each other. */
+static void compare_near(uint64_t n, struct tally *tally)
+{
+    for (uint64_t k = 0; k < 3; k++)
+        compare_root(n + k - 1, 2, tally);
+}
+
+/* Small numbers; powers of two and squares with their neighbours; numbers of every length; answers of all lengths. */
+static int compare_roots(void)
+{
+    struct tally tally = {0, 0, 0};
+    for (uint64_t n = 0; n <= 70000; n++)
+        compare_root(n, 2, &tally);
+    for (unsigned k = 0; k < 64; k++)
+        compare_near(UINT64_C(1) << k, &tally);
+    for (uint64_t root = 0; root <= 5000; root++)
+        compare_near(root * root, &tally);
+    for (unsigned k = 0; k < 32 * 700; k++) {
+        uint64_t root = any_of_bits(1 + k % 32);
+        compare_near(root * root, &tally);
+    }
+    compare_near(UINT64_C(0xffffffff) * UINT64_C(0xffffffff), &tally);
+    compare_near(UINT64_MAX, &tally);
+    for (unsigned k = 0; k < 64 * 1600; k++)
+        compare_root(any_of_bits(1 + k % 64), 2, &tally);
+    for (unsigned k = 0; k < 64; k++)
+        for (size_t room = 0; room <= 4; room++)
+            compare_root(any_of_bits(1 + k), room, &tally);
+    return print_tally(&tally, "whole roots found, with the bracket of each");
+}
+
 /* Stack: a thread on a stack of its own fills all of it below its frame with one byte, calls once, and looks for the
  * lowest byte that changed.  Done with two patterns, since a call may write the pattern itself. */
 #define STACK (1 << 20)
@@ -628,21 +791,23 @@ static size_t stack_of(enum job job, int version, const struct record *r)
     return depth;
 }
 
+enum { NARROW = 26, WIDE = 46 }; /* of a table's names */
+
 /* The first columns of a table of times, without the line's end. */
-static void print_head(enum job job)
+static void print_head(const char *what, int width)
 {
-    printf("%-26s", JOB[job]);
+    printf("%-*s", width, what);
     for (int v = 0; v < VERSIONS; v++)
         printf(" %10s", VERSION[v].name);
     for (int v = 1; v < VERSIONS; v++)
         printf("   proved/%-5s", VERSION[v].name);
 }
 
-static void print_row(const char *name, const double *t)
+static void print_row(const char *name, int width, int decimals, const double *t)
 {
-    printf("%-26s", name);
+    printf("%-*s", width, name);
     for (int v = 0; v < VERSIONS; v++)
-        printf(" %10.0f", t[v]);
+        printf(" %10.*f", decimals, t[v]);
     for (int v = 1; v < VERSIONS; v++)
         printf("   %12.2f", t[0] / t[v]);
 }
@@ -651,11 +816,11 @@ static void print_row(const char *name, const double *t)
 static int print_times(enum job job, const struct record *joints, double ns[TIMED][JOBS][VERSIONS])
 {
     int missed = 0;
-    print_head(job);
+    print_head(JOB[job], NARROW);
     printf(job == JUDGE ? "  to reach\n" : "  %s/judge, proved\n", JOB[job]);
     for (int k = 0; k < TIMED; k++) {
         const double *t = ns[k][job];
-        print_row(joints[k].name, t);
+        print_row(joints[k].name, NARROW, 0, t);
         if (job != JUDGE) {
             printf("  %.4f\n", t[0] / ns[k][JUDGE][0]);
             continue;
@@ -669,12 +834,132 @@ static int print_times(enum job job, const struct record *joints, double ns[TIME
 /* The times of a job by three tables, set against the printed one. */
 static void print_tabled(enum job job, const struct record *tabled, double ns[TABLED][JOBS][VERSIONS])
 {
-    print_head(job);
+    print_head(JOB[job], NARROW);
     printf("  table/printed, proved\n");
     for (int k = 0; k < TABLED; k++) {
-        print_row(tabled[k].name, ns[k][job]);
+        print_row(tabled[k].name, NARROW, 0, ns[k][job]);
         printf("  %.4f\n", ns[k][job][0] / ns[0][job][0]);
     }
+}
+
+/* Times what each version does in so many rows, and prints it. */
+static void time_rows(const char *what, int width, int decimals, struct timed (*t)[VERSIONS], int rows)
+{
+    time_in_turn(t[0], rows * VERSIONS);
+    print_head(what, width);
+    printf("\n");
+    for (int k = 0; k < rows; k++) {
+        double ns[VERSIONS];
+        for (int v = 0; v < VERSIONS; v++)
+            ns[v] = median(&t[k][v]);
+        print_row(t[k][0].name, width, decimals, ns);
+        printf("\n");
+    }
+}
+
+static void time_thick(const struct record thick[THICK][THICKNESSES])
+{
+    static struct timed t[THICK][VERSIONS];
+    for (int k = 0; k < THICK; k++)
+        for (int v = 0; v < VERSIONS; v++)
+            t[k][v] = (struct timed){.name = thick[k][0].name, .rounds = do_job, .many = THICKNESSES,
+                                     .records = thick[k], .job = JUDGE, .version = v};
+    time_rows(JOB[JUDGE], WIDE, 0, t, THICK);
+}
+
+/* Both entries for roots, each with many numbers of so many bits. */
+static void time_roots(void)
+{
+    enum { ROWS = 5, NUMBERS = 4096 };
+    static const struct {
+        const char *name;
+        unsigned least, most;
+    } row[ROWS] = {
+        {"whole root, 16 bits", 16, 16},
+        {"whole root, 32 bits", 32, 32},
+        {"whole root, 64 bits", 64, 64},
+        {"whole root, 1 to 64 bits", 1, 64},
+        {"root bracket, 1 to 64 bits", 1, 64}, /* the last */
+    };
+    static uint64_t numbers[ROWS][NUMBERS];
+    static struct timed t[ROWS][VERSIONS];
+    for (int k = 0; k < ROWS; k++) {
+        for (int i = 0; i < NUMBERS; i++)
+            numbers[k][i] = any_of_bits(row[k].least + any_number() % (row[k].most - row[k].least + 1));
+        for (int v = 0; v < VERSIONS; v++)
+            t[k][v] = (struct timed){.name = row[k].name, .rounds = find_roots, .many = NUMBERS,
+                                     .numbers = numbers[k],
+                                     .root = k == ROWS - 1 ? VERSION[v].root_bracket : VERSION[v].whole_root};
+    }
+    time_rows("root", NARROW, 1, t, ROWS);
+}
+
+/* ---- two builds of the library */
+
+enum { OTHER, OURS, BUILDS };
+#define PLACES 4 /* of a build's code */
+
+static judge_fn *judge_of(const char *path)
+{
+    void *library = dlopen(path, RTLD_NOW | RTLD_LOCAL);
+    void *judge = library ? dlsym(library, "negwishal_judge") : NULL;
+    if (judge == NULL) {
+        fprintf(stderr, "%s\n", dlerror());
+        exit(2);
+    }
+    return (judge_fn *)judge;
+}
+
+/* The reports of both builds, number by number. */
+static void compare_builds(const struct timed t[BUILDS], struct tally *tally)
+{
+    uint64_t reports[BUILDS][8];
+    for (int i = 0; i < t->many; i++) {
+        const struct record *r = &t->records[i];
+        for (int b = 0; b < BUILDS; b++)
+            t[b].judge(r->bytes, r->length, reports[b], 8);
+        int bad = memcmp(reports[OTHER], reports[OURS], sizeof reports[OURS]) != 0;
+        if (bad)
+            printf("%-*s %-26s %-26s DIFFER\n", WIDE, r->name, line(reports[OTHER]), line(reports[OURS]));
+        count(tally, reports[OURS][1], bad);
+    }
+}
+
+/* Judging by two builds, the other and ours, called alike: of each the mean over the places of its code; ours/other,
+ * and what that is in each place. */
+static int time_builds(char *(*path)[BUILDS], int places, const struct record *joints,
+                       const struct record thick[THICK][THICKNESSES])
+{
+    enum { ROWS = TIMED + THICK };
+    static struct timed t[PLACES][ROWS][BUILDS];
+    struct tally tally = {0, 0, 0};
+    for (int p = 0; p < places; p++) {
+        judge_fn *judge[BUILDS];
+        for (int b = 0; b < BUILDS; b++)
+            judge[b] = judge_of(path[p][b]);
+        for (int k = 0; k < ROWS; k++) {
+            const struct record *r = k < TIMED ? &joints[k] : thick[k - TIMED];
+            int many = k < TIMED ? 1 : THICKNESSES;
+            for (int b = 0; b < BUILDS; b++)
+                t[p][k][b] = (struct timed){.name = r->name, .rounds = judge_by_build, .many = many, .records = r,
+                                            .judge = judge[b]};
+            compare_builds(t[p][k], &tally);
+        }
+    }
+    time_in_turn(t[0][0], places * ROWS * BUILDS);
+    printf("%-*s %10s %10s   %10s%s\n", WIDE, JOB[JUDGE], "other", "ours", "ours/other",
+           places > 1 ? "   in each place" : "");
+    for (int k = 0; k < ROWS; k++) {
+        double ns[BUILDS] = {0, 0};
+        for (int p = 0; p < places; p++)
+            for (int b = 0; b < BUILDS; b++)
+                ns[b] += median(&t[p][k][b]) / places;
+        printf("%-*s %10.0f %10.0f   %10.3f", WIDE, t[0][k][OURS].name, ns[OTHER], ns[OURS], ns[OURS] / ns[OTHER]);
+        for (int p = 0; p < places && places > 1; p++)
+            printf("%s%.3f", p == 0 ? "   " : " ", median(&t[p][k][OURS]) / median(&t[p][k][OTHER]));
+        printf("\n");
+    }
+    return print_tally(&tally, "joints judged by both builds");
 }
 
 /* The deepest call of a job of the proved version. */
@@ -715,20 +1000,20 @@ static void too_many(void)
 }
 
 /* The records in the files; the tables in them go behind the others. */
-static int read_files(int argc, char **argv, struct record *r, int room, int *many_tables)
+static int read_files(int files, char **file, struct record *r, int room, int *many_tables)
 {
     int records = 0;
-    for (int i = 1; i < argc; i++) {
-        const char *dot = strrchr(argv[i], '.');
+    for (int i = 0; i < files; i++) {
+        const char *dot = strrchr(file[i], '.');
         if (dot != NULL && strcmp(dot, ".tab") == 0) {
             if (*many_tables == sizeof tables / sizeof tables[0])
                 too_many();
             struct table *t = &tables[(*many_tables)++];
-            t->name = read_file(argv[i], t->bytes, sizeof t->bytes, &t->length);
+            t->name = read_file(file[i], t->bytes, sizeof t->bytes, &t->length);
         } else {
             if (records == room)
                 too_many();
-            r[records].name = read_file(argv[i], r[records].bytes, sizeof r[records].bytes, &r[records].length);
+            r[records].name = read_file(file[i], r[records].bytes, sizeof r[records].bytes, &r[records].length);
             records++;
         }
     }
@@ -763,15 +1048,20 @@ static int compare_tables(int many_tables, const struct record *r, int records, 
 
 int main(int argc, char **argv)
 {
-    static struct record records[JOINTS + FILES], tabled[TABLED];
+    static struct record records[JOINTS + FILES], tabled[TABLED], thick[THICK][THICKNESSES];
     static double ns[TIMED][JOBS][VERSIONS], ns_by[TABLED][JOBS][VERSIONS];
     struct record *const joints = records;
     struct tally written = {0, 0, 0};
     int bad = 0, missed = 0, many_tables = TABLES;
     size_t deepest = 0;
+    char *builds[PLACES][BUILDS];
+    int places = 0, first = 1; /* of the files */
+    for (; places < PLACES && first + BUILDS < argc && strcmp(argv[first], "--builds") == 0; first += 1 + BUILDS)
+        memcpy(builds[places++], argv + first + 1, sizeof builds[0]);
     write_records(joints);
     write_tables();
-    int many = JOINTS + read_files(argc, argv, records + JOINTS, FILES, &many_tables);
+    write_thick(thick, &joints[0]);
+    int many = JOINTS + read_files(argc - first, argv + first, records + JOINTS, FILES, &many_tables);
 
     printf("Answers (U C E, or a refusal's number and place); values read and bytes written agree too\n%-26s", "");
     for (int v = 0; v < VERSIONS; v++)
@@ -781,6 +1071,8 @@ int main(int argc, char **argv)
         bad += !compare(&records[k]);
     compare_writers(&joints[0], NULL, &written);
     bad += print_tally(&written, "sets of values written by each version");
+    bad += compare_thick(thick);
+    bad += compare_roots();
 
     printf("\nAnswers by %d tables: joint B in wide outlines, force (0, 20000), then all records and values\n",
            many_tables);
@@ -800,6 +1092,15 @@ int main(int argc, char **argv)
     time_records(tabled, TABLED, ns_by);
     for (int j = 0; j < JOBS; j++)
         print_tabled(j, tabled, ns_by);
+
+    printf("\nTime of one joint with 100 thicknesses in turn, ns per joint; of whole roots, ns per call\n");
+    time_thick(thick);
+    time_roots();
+
+    if (places > 0) {
+        printf("\nTime of judging by two builds of the library, both from shared objects, in turn; ns per joint\n");
+        bad += time_builds(builds, places, joints, thick);
+    }
 
     printf("\nStack: deepest byte that one call changed, in bytes below the caller's frame, on a painted stack\n");
     for (int j = 0; j < JOBS; j++) {

@@ -1,4 +1,5 @@
-/* The three versions of one job, with the same entries: those of include/negwishal.h, without and with a table. */
+/* The three versions of one job, with the same entries: those of include/negwishal.h, without and with a table, and two
+ * for whole square roots. */
 #ifndef BENCH_H
 #define BENCH_H
 
@@ -24,6 +25,9 @@ typedef uint32_t read_with_fn(const uint8_t *table, size_t table_len, const uint
                               int32_t *fields, size_t fields_len, int32_t *x, size_t x_len, int32_t *y, size_t y_len,
                               int32_t *marks, size_t marks_len, uint64_t *answer, size_t answer_len);
 
+/* answer: low and high of the bracket; the root and the halvings */
+typedef uint32_t root_fn(uint64_t n, uint64_t *answer, size_t answer_len);
+
 /* the proved library */
 judge_fn negwishal_judge;
 write_fn negwishal_write;
@@ -32,6 +36,8 @@ load_fn negwishal_load;
 judge_with_fn negwishal_judge_with;
 write_with_fn negwishal_write_with;
 read_with_fn negwishal_read_with;
+root_fn negwishal_root_bracket;
+root_fn negwishal_whole_root;
 /* bench/float.rs */
 judge_fn float_judge;
 write_fn float_write;
@@ -40,6 +46,8 @@ load_fn float_load;
 judge_with_fn float_judge_with;
 write_with_fn float_write_with;
 read_with_fn float_read_with;
+root_fn float_root_bracket;
+root_fn float_whole_root;
 /* bench/exact.c */
 judge_fn exact_judge;
 write_fn exact_write;
@@ -48,5 +56,7 @@ load_fn exact_load;
 judge_with_fn exact_judge_with;
 write_with_fn exact_write_with;
 read_with_fn exact_read_with;
+root_fn exact_root_bracket;
+root_fn exact_whole_root;
 
 #endif

@@ -1,6 +1,6 @@
 /* The same job exactly, on GMP: every comparison is one of whole numbers, every root is rounded towards the safe
- * side.  C and E are the greatest whole numbers allowed.  At the end, a record from values and values from a record.
- * Nothing here is proved: it is a yardstick. */
+ * side.  C and E are the greatest whole numbers allowed.  Then a record from values and values from a record; at the
+ * end whole square roots.  Nothing here is proved: it is a yardstick. */
 #include <gmp.h>
 #include <stdlib.h>
 #include <string.h>
@@ -633,5 +633,34 @@ uint32_t exact_read_with(const uint8_t *table, size_t table_len, const uint8_t *
         return 1;
     read_values(load(table, table_len, &own), &own, record, record_len, fields, (int32_t *const[3]){x, y, marks},
                 answer);
+    return 0;
+}
+
+/* ---- whole square roots */
+
+uint32_t exact_root_bracket(uint64_t n, uint64_t *answer, size_t answer_len)
+{
+    mpz_t number;
+    if (answer_len < 2)
+        return 1;
+    mpz_init_set_ui(number, n);
+    /* a number of 2 k + 1 or 2 k + 2 bits has a root of k + 1 bits */
+    answer[0] = n == 0 ? 0 : UINT64_C(1) << (mpz_sizeinbase(number, 2) - 1) / 2;
+    answer[1] = n == 0 ? 1 : 2 * answer[0];
+    mpz_clear(number);
+    return 0;
+}
+
+uint32_t exact_whole_root(uint64_t n, uint64_t *answer, size_t answer_len)
+{
+    mpz_t root;
+    if (answer_len < 2)
+        return 1;
+    mpz_init_set_ui(root, n);
+    mpz_sqrt(root, root);
+    answer[0] = mpz_get_ui(root);
+    /* the bracket of a root of k + 1 bits is 2^k wide and takes k halvings; 0, as GMP counts, has 1 bit */
+    answer[1] = mpz_sizeinbase(root, 2) - 1;
+    mpz_clear(root);
     return 0;
 }

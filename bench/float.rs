@@ -1,5 +1,5 @@
 // The same job in plain floating point: read a record, refuse it, or give verdict, use, capacity and row share; write a
-// record from values and read values from a record.
+// record from values and read values from a record; find whole square roots.
 // Nothing here is proved, and comparisons are only as good as f64: it is a yardstick for the benchmark.
 
 // By class from 1: k90 without its 0.015 d (1.35 softwood, 0.90 hardwood), and the density.
@@ -669,4 +669,55 @@ pub unsafe extern "C" fn float_read_with(
             own, record, record_len, fields, fields_len, x, x_len, y, y_len, marks, marks_len, answer, answer_len,
         )
     }
+}
+
+// ---- whole square roots
+
+// The root of the nearest f64 is never too small, and at most 1 too great: its square may take 65 bits.
+fn whole_root(n: u64) -> u64 {
+    let root = (n as f64).sqrt() as u64;
+    root - (u128::from(root).pow(2) > u128::from(n)) as u64
+}
+
+// The exponent of the greatest power of two that is not above a root, which f64 holds exactly; the root is not 0.
+fn exponent(root: u64) -> u64 {
+    ((root as f64).to_bits() >> 52) - 1023
+}
+
+// Low and high, the greatest power of two that is not above the root and its double.
+fn bracket(n: u64) -> [u64; 2] {
+    match whole_root(n) {
+        0 => [0, 1],
+        root => [1, 2].map(|z| z << exponent(root)),
+    }
+}
+
+// The root, and the halvings that a bracket of this width takes: as many as its exponent.
+fn counted_root(n: u64) -> [u64; 2] {
+    match whole_root(n) {
+        0 => [0, 0],
+        root => [root, exponent(root)],
+    }
+}
+
+unsafe fn root_lent(find: fn(u64) -> [u64; 2], n: u64, answer: *mut u64, answer_len: usize) -> u32 {
+    if answer_len < 2 {
+        return 1;
+    }
+    unsafe { std::slice::from_raw_parts_mut(answer, 2) }.copy_from_slice(&find(n));
+    0
+}
+
+/// # Safety
+/// The slice is one that may be written to.
+#[no_mangle]
+pub unsafe extern "C" fn float_root_bracket(n: u64, answer: *mut u64, answer_len: usize) -> u32 {
+    unsafe { root_lent(bracket, n, answer, answer_len) }
+}
+
+/// # Safety
+/// The slice is one that may be written to.
+#[no_mangle]
+pub unsafe extern "C" fn float_whole_root(n: u64, answer: *mut u64, answer_len: usize) -> u32 {
+    unsafe { root_lent(counted_root, n, answer, answer_len) }
 }

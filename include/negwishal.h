@@ -1,5 +1,5 @@
 /* Judging a dowelled timber joint from C, and writing and reading its record, by the printed table of classes of wood or
- * by a firm's own.
+ * by a firm's own; and finding whole square roots as judging finds them.
  *
  * The library is target/staticlib/libnegwishal.a, made by `scripts/library`.  docs/RECORD.md says how a record
  * is written and what each refusal means, docs/TABLE.md how a table is written.
@@ -16,8 +16,8 @@
  *   uint64_t to 8; bytes, those of a table too, may stand anywhere.
  * - No memory is allocated and there is no global state: calls from several threads, each with slices of its own to
  *   write to, do not disturb each other.
- * - Every sequence of bytes, of any length, and every list of numbers is answered.  There is no failure but a slice
- *   that is too short.
+ * - Every sequence of bytes, of any length, every list of numbers and every number is answered.  There is no failure but
+ *   a slice that is too short.
  */
 #ifndef NEGWISHAL_H
 #define NEGWISHAL_H
@@ -121,7 +121,7 @@ enum {
 /* How many numbers are needed: of fields, of each of x, y and marks where they are written to, of answer. */
 enum { NEGWISHAL_VALUES = 27, NEGWISHAL_POSITIONS = 64, NEGWISHAL_ANSWER = 2 };
 
-/* What negwishal_write and negwishal_read return, and their like with a table. */
+/* What negwishal_write and negwishal_read return, their like with a table, and the two entries for roots. */
 enum {
     NEGWISHAL_DONE = 0,       /* the answer stands in answer */
     NEGWISHAL_SHORT_SLICE = 1 /* a slice has fewer numbers than are needed: nothing was done or written */
@@ -200,6 +200,33 @@ uint32_t negwishal_write_with(const uint8_t *table, size_t table_len, const int3
 uint32_t negwishal_read_with(const uint8_t *table, size_t table_len, const uint8_t *record, size_t record_len,
                              int32_t *fields, size_t fields_len, int32_t *x, size_t x_len, int32_t *y, size_t y_len,
                              int32_t *marks, size_t marks_len, uint64_t *answer, size_t answer_len);
+
+/* Whole square roots: that of n is the greatest number whose square is not above n.  Judging finds all its square roots as
+ * the two entries below do, and finds them itself: a caller need not call these before it.
+ *
+ * Both answer every n.  Needed: NEGWISHAL_ANSWER numbers of answer; with fewer nothing is written and
+ * NEGWISHAL_SHORT_SLICE comes back, else NEGWISHAL_DONE.  Numbers past the second of answer are left as they are. */
+
+/* What negwishal_root_bracket answers, by the place in answer. */
+enum {
+    NEGWISHAL_BRACKET_LOW = 0, /* greatest power of two whose square is not above n; 0 for 0 */
+    NEGWISHAL_BRACKET_HIGH = 1 /* double of low; 1 for 0 */
+};
+
+/* Gives the bracket from which the root of n is looked for, by the leading zeros of n: the root is at least low and below
+ * high.  For 0 they are 0 and 1.  From 2^62 on low is 2^31 and high 2^32, for which 32 bits are too few; no n has more. */
+uint32_t negwishal_root_bracket(uint64_t n, uint64_t *answer, size_t answer_len);
+
+/* What negwishal_whole_root answers, by the place in answer. */
+enum {
+    NEGWISHAL_ROOT = 0,    /* the whole square root, at most 2^32 - 1; 0 for 0 */
+    NEGWISHAL_HALVINGS = 1 /* how many halvings of the bracket led to it; 0 for 0 */
+};
+
+/* Finds the whole square root of n by halving that bracket.  Each halving keeps the upper half, from the middle on, where
+ * the square of the middle is not above n, and the lower half where it is, until low is the root and high one more.  Where
+ * low is 2^k at the start there are at most k halvings: none for 0 to 3, and at most 31 for any n. */
+uint32_t negwishal_whole_root(uint64_t n, uint64_t *answer, size_t answer_len);
 
 #ifdef __cplusplus
 }

@@ -1,10 +1,11 @@
-"""The engineer: an exact reference for document 01 with requests A1 to A4 of 02, written from these documents alone.
+"""The engineer: an exact reference for document 01 with requests A1 to A5 of 02, written from these documents alone.
 
 Whole numbers and fractions only.  Reference(record) settles the refusal or the
 exact quantities once; its check(line) says whether an output line is right.
 after_write and after_read say what the C entries that write and read leave behind.
 load(table) says what a firm's table holds.  All others take what it gives, `loaded`:
 the table, or the refusal of one that did not load; without it the printed table.
+check_bracket and check_root say whether what the C entries for whole roots answer is right.
 """
 from fractions import Fraction
 from math import gcd, isqrt
@@ -557,6 +558,74 @@ def _last(holds):
         else:
             high = middle
     return low
+
+
+# --------------------------------------------------------------- whole roots (02, A5)
+
+def power_of_two(number):
+    """The k where the number is 2 to the k, or None."""
+    k = 0
+    while 2 ** k < number:
+        k += 1
+    return k if 2 ** k == number else None
+
+
+def check_bracket(n, low, high):
+    """True, or the reason why this is not the starting bracket of n: low, the greatest power of two whose square is not
+    above n, and high, its double; for 0 they are 0 and 1."""
+    if n == 0:
+        return (low, high) == (0, 1) or "low %d and high %d for 0" % (low, high)
+    if power_of_two(low) is None:
+        return "low %d is no power of two" % low
+    if low * low > n:
+        return "the square of low %d is above %d" % (low, n)
+    if (2 * low) * (2 * low) <= n:
+        return "the square of twice low %d is not above %d" % (low, n)
+    return high == 2 * low or "high %d is not the double of low %d" % (high, low)
+
+
+def bracket(n):
+    """The starting bracket of n."""
+    if n == 0:
+        return 0, 1
+    low = 1
+    while (2 * low) * (2 * low) <= n:
+        low = 2 * low
+    return low, 2 * low
+
+
+def halved(n, low, high):
+    """The half that is kept: the upper one where the square of the middle is not above n."""
+    middle = (low + high) // 2
+    return (middle, high) if middle * middle <= n else (low, middle)
+
+
+def halve(n):
+    """(root, halvings): halved from the starting bracket on, until high is one more than low."""
+    low, high = bracket(n)
+    count = 0
+    while high - low != 1:
+        low, high = halved(n, low, high)
+        count += 1
+    return low, count
+
+
+def check_root(n, root, halvings):
+    """True, or the reason why these are not the whole root of n and its halvings, at most k from 2 to the k; none for 0."""
+    if root * root > n:
+        return "the square of root %d is above %d" % (root, n)
+    if (root + 1) * (root + 1) <= n:
+        return "the square of root %d plus 1 is not above %d" % (root, n)
+    most = 0 if n == 0 else power_of_two(bracket(n)[0])
+    if halvings > most:
+        return "%d halvings for %d, at most %d" % (halvings, n, most)
+    counted = halve(n)[1]
+    return halvings == counted or "%d halvings for %d, there are %d" % (halvings, n, counted)
+
+
+def root_line(n):
+    """Low, high, root and halvings of n, as the examples print them."""
+    return "%d: %d %d %d %d" % (n, *bracket(n), *halve(n))
 
 
 # ------------------------------------------------------------------ the check

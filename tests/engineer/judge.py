@@ -7,6 +7,8 @@ what is lent and what stands there afterwards; or a str that says what went wron
 
 Those with `tables` have load(table) -> number, and the other three with table=bytes
 call the entry that takes a table.
+
+Those with `roots` have bracket(n, answer) and root(n, answer) -> (code, answer).
 """
 from array import array
 import ctypes
@@ -19,7 +21,7 @@ import model
 class StandIn:
     """model.py (or a wrong program) in this process."""
     program = True              # has the program's rule of 4,096 bytes
-    writes = tables = True
+    writes = tables = roots = True
 
     def __init__(self, cls=model.Model):
         self.cls = cls
@@ -61,6 +63,20 @@ class StandIn:
             return "crashed: %s: %s" % (type(fault).__name__, fault)
         return (code, *after)
 
+    def bracket(self, n, answer):
+        return self.rooted(self.cls().bracket, n, answer)
+
+    def root(self, n, answer):
+        return self.rooted(self.cls().root, n, answer)
+
+    def rooted(self, entry, n, answer):
+        after = list(answer)
+        try:
+            code = entry(n, after)
+        except Exception as fault:
+            return "crashed: %s: %s" % (type(fault).__name__, fault)
+        return code, after
+
     def close(self):
         pass
 
@@ -68,7 +84,7 @@ class StandIn:
 class Command:
     """A program that gets one record on standard input and prints one line."""
     program = True
-    writes = tables = False
+    writes = tables = roots = False
 
     def __init__(self, command):
         self.command = shlex.split(command)
@@ -109,11 +125,11 @@ class Arena:
             image += block
         return image + self.GAP, starts
 
-    def call(self, entry, blocks, written):
-        """The code and the blocks with these numbers afterwards, or a str."""
+    def call(self, entry, blocks, written, numbers=()):
+        """The code and the blocks with these numbers afterwards, or a str; numbers: arguments before the blocks."""
         image, starts = self.lay(blocks)
         self.bytes[:len(image)] = image
-        words = []
+        words = list(numbers)
         for start, (block, place) in zip(starts, blocks):
             words += [self.start + start, len(block) // WIDTH[place]]
         code = entry(*words)
@@ -141,11 +157,11 @@ def u64s(numbers):
     return array("Q", numbers).tobytes(), U64
 
 
-def entry_of(library, name, slices):
-    """The C entry, its arguments so many slices."""
+def entry_of(library, name, slices, numbers=0):
+    """The C entry, its arguments so many slices after so many numbers of 64 bits."""
     entry = getattr(library, name)
     entry.restype = ctypes.c_uint32
-    entry.argtypes = (ctypes.c_void_p, ctypes.c_size_t) * slices
+    entry.argtypes = (ctypes.c_uint64,) * numbers + (ctypes.c_void_p, ctypes.c_size_t) * slices
     return entry
 
 
@@ -168,11 +184,13 @@ class Library:
                               ctypes.POINTER(ctypes.c_uint64), ctypes.c_size_t)
         self.writes = hasattr(library, "negwishal_write")
         self.tables = self.writes and hasattr(library, "negwishal_load")
+        self.roots = hasattr(library, "negwishal_root_bracket")
         self.arena, self.entries = Arena(), {}
         for has, names in ((self.writes, (("write", 6), ("read", 6))),
-                           (self.tables, (("load", 1), ("judge_with", 3), ("write_with", 7), ("read_with", 7)))):
-            for name, slices in names if has else ():
-                self.entries[name] = entry_of(library, "negwishal_" + name, slices)
+                           (self.tables, (("load", 1), ("judge_with", 3), ("write_with", 7), ("read_with", 7))),
+                           (self.roots, (("root_bracket", 1, 1), ("whole_root", 1, 1)))):
+            for name, *lent in names if has else ():
+                self.entries[name] = entry_of(library, "negwishal_" + name, *lent)
 
     def lend(self, name, table, blocks, written):
         """Calls the entry, the one that takes a table where there is one; written: numbers of the blocks written to."""
@@ -194,6 +212,16 @@ class Library:
         if isinstance(got, str):
             return got
         return (got[0], *(array("i", z).tolist() for z in got[1:5]), array("Q", got[5]).tolist())
+
+    def bracket(self, n, answer):
+        return self.rooted("root_bracket", n, answer)
+
+    def root(self, n, answer):
+        return self.rooted("whole_root", n, answer)
+
+    def rooted(self, name, n, answer):
+        got = self.arena.call(self.entries[name], [u64s(answer)], (0,), (n,))
+        return got if isinstance(got, str) else (got[0], array("Q", got[1]).tolist())
 
     def verdict(self, status, report):
         """'refused', 'fits' or 'overloaded'."""

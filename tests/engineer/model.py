@@ -1,6 +1,6 @@
 """A stand-in program: one record on standard input, one line on standard output.
-write, read_values and load stand in for the library's C entries; with a table in
-`handed` judge, write and read_values stand in for those that take one.
+write, read_values, load, bracket and root stand in for the library's C entries; with a
+table in `handed` judge, write and read_values stand in for those that take one.
 
 Whole numbers only.  It shares nothing with engineer.py and finds its figures by
 whole roots, where the engineer tests powers.  The small methods are there so that
@@ -443,6 +443,69 @@ class Model:
         for z in (x, y, marks):
             z[:64] = [0] * 64
         answer[0], answer[1] = number, 0
+
+    # ---- whole roots (02, A5)
+
+    def bracket(self, n, answer):
+        """The code; answer is changed in place."""
+        if self.short("answer", answer):
+            return 1
+        answer[0], answer[1] = self.starting(n)
+        return 0
+
+    def root(self, n, answer):
+        """The code; answer is changed in place."""
+        if self.short("answer", answer):
+            return 1
+        answer[0], answer[1] = self.counted(n)
+        return 0
+
+    def starting(self, n):
+        """low and high"""
+        if n == 0:
+            return self.nothing()
+        low = 1 << self.low_bits(n)
+        return low, self.high(low)
+
+    def nothing(self):
+        return 0, 1
+
+    def low_bits(self, n):
+        """a square has one bit less than twice as many as its root, or just as many"""
+        return (n.bit_length() - 1) // 2
+
+    def high(self, low):
+        return low << 1
+
+    def counted(self, n):
+        """the root, bit by bit below low, and how many bits were tried"""
+        low, high = self.begun(n)
+        root, step, count = low, (high - low) // 2, self.none_yet()
+        while step > 0 and not self.ended(root, n):
+            kept = self.passes(root + step, n)
+            root += step * kept
+            count = self.one_more(count, kept)
+            step //= 2
+        return self.told(n, root, count)
+
+    def begun(self, n):
+        """the bracket that is halved"""
+        return self.starting(n)
+
+    def none_yet(self):
+        return 0
+
+    def ended(self, root, n):
+        return False
+
+    def passes(self, root, n):
+        return root * root <= n
+
+    def one_more(self, count, kept):
+        return count + 1
+
+    def told(self, n, root, count):
+        return root, count
 
     # ---- axes and angles
 

@@ -5,7 +5,7 @@
   run.py --library path.so [--entry name]        a library through its C entries
   run.py --wrong [--count N]                     the wrong programs: each must be reported
 A library is handed N records to judge, to read and to write again, and N sets of values to write and to read; then
-N of each with tables of firms.
+N of each with tables of firms; and N numbers, to find the starting bracket and the whole root of each.
   run.py --show K [--seed S] [--tables]          record number K, in hex, and what 01 says of it; or that with its table
 Exit status 0 if all is right.
 """
@@ -16,10 +16,11 @@ import time
 import engineer
 import judge
 import records
+import roots
 import tables
 import values
-from written import check_line, check_load, check_read, check_write
-from wrong import WRONG, WRONG_TABLES, WRONG_WRITERS
+from written import check_line, check_load, check_read, check_roots, check_write
+from wrong import WRONG, WRONG_ROOTS, WRONG_TABLES, WRONG_WRITERS
 
 
 def outcome(line):
@@ -40,7 +41,7 @@ def summary(what, seed, violations, began, outcomes):
 
 
 def answered(code, number):
-    """The outcome of an entry that writes or reads values."""
+    """The outcome of an entry that writes or reads values, or finds roots."""
     return "slice short" if code else "refused %d" % number if number else "done"
 
 
@@ -146,6 +147,26 @@ def run_tables(program, seed, count, most, skip=0):
     return violations
 
 
+def run_roots(program, seed, count, most, skip=0):
+    """Numbers through the entries that find a starting bracket and a whole root."""
+    outcomes, kinds, violations = Counter(), Counter(), 0
+    began = time.time()
+    for n, (label, number) in enumerate(roots.stream(seed, count)):
+        if n < skip:
+            continue
+        lent = roots.lent(seed, n)
+        outcomes[answered(len(lent) < roots.NEEDED, 0)] += 1
+        kinds[label] += 1
+        found = check_roots(program, number, lent)
+        if found is not True:
+            violations += 1
+            if violations <= most:
+                print("number %d (%s): %s\n  %d into %r" % (n, label, found, number, lent))
+    summary("numbers", seed, violations, began, outcomes)
+    print("  kinds: " + counts(kinds))
+    return violations
+
+
 def run_wrong_writers(seed, count, only):
     """Each wrong writer or reader until its first violation: values first, then records."""
     handed = [(n, label, h, engineer.after_write(*h)) for n, (label, h) in enumerate(values.stream(seed, count))]
@@ -227,12 +248,30 @@ def run_wrong_tables(seed, count, only):
     return missed
 
 
+def run_wrong_roots(seed, count, only):
+    """Each wrong program until its first violation."""
+    kept = [(n, label, number, roots.lent(seed, n)) for n, (label, number) in enumerate(roots.stream(seed, count))]
+    missed = tried = 0
+    print("%-16s %-58s %8s  %s" % ("entry", "wrong program with roots", "number", "why"))
+    for entry, name, cls in WRONG_ROOTS:
+        if only and only not in name:
+            continue
+        tried += 1
+        program = judge.StandIn(cls)
+        found = first_report((entry, n, label, check_roots(program, number, lent)) for n, label, number, lent in kept)
+        missed += found is None
+        print("%-16s %-58s %8s" % (entry, name, "MISSED") if found is None
+              else "%-16s %-58s %8d  (%s) %s" % (entry, name, *found[1:]))
+    print("%d wrong programs with roots, %d missed, %d numbers, seed %d" % (tried, missed, len(kept), seed))
+    return missed
+
+
 def judged_only(program, data, reference, table):
     return check_line(program, data, reference, table)[1]
 
 
 def run_all(program, a):
-    """The violations of judging and, where the program has them, of writing and reading and of all with tables."""
+    """The violations of judging and, where the program has them, of writing and reading, of all with tables and of roots."""
     count = a.count or 20000
     violations = run(program, a.seed, count, a.most, a.skip)
     if program.writes:
@@ -247,6 +286,11 @@ def run_all(program, a):
     elif a.library:
         violations += 1
         print("the library has no negwishal_load")
+    if program.roots:
+        violations += run_roots(program, a.seed, count, a.most, a.skip)
+    elif a.library:
+        violations += 1
+        print("the library has no negwishal_root_bracket")
     return violations
 
 
@@ -291,6 +335,7 @@ def main():
         missed = run_wrong(a.seed, a.count or 25000, a.only)
         missed += run_wrong_writers(a.seed, a.count or 8000, a.only)
         missed += run_wrong_tables(a.seed, a.count or 5000, a.only)
+        missed += run_wrong_roots(a.seed, a.count or 5000, a.only)
         return 1 if missed else 0
     if a.library:
         program = judge.Library(a.library, a.entry)

@@ -1,6 +1,6 @@
-"""Writes the samples of records.py, the line of each, a firm's table and the lines by it into a folder.
+"""Writes the samples of records.py, the line of each, a firm's table, the lines by it, those of roots and of thicknesses into a folder.
 
-  samples.py FOLDER           writes *.rec, lines.txt, *.tab and own-table-lines.txt
+  samples.py FOLDER           writes *.rec, lines.txt, *.tab, own-table-lines.txt, root-lines.txt and thickness-lines.txt
   samples.py --check FOLDER   compares them with what it would write
 """
 import os
@@ -20,6 +20,18 @@ OWN_HEAD = """\
 # printed table.  Of the printed classes it has 1 and 9, and no more.
 """
 
+ROOT_HEAD = """\
+# The line that each number gives: its starting bracket, low and high, its whole square root, and how
+# many halvings of the bracket lead to it.
+"""
+ROOTS = (0, 1, 2, 3, 4, 15, 16, 17, 2 ** 62 - 1, 2 ** 62, 2 ** 64 - 1)
+
+THICKNESS_HEAD = """\
+# The least thickness of member 1 in whole mm, from 20 to 400, with which each record fits, and its
+# line then, as in lines.txt; of records for which no free figure can change the thickness.
+"""
+THICKNESSES = ("joint-b", "t1-200", "pair-504", "force-27000", "out-of-line", "dowels-599", "no-force")
+
 # the sawmill of examples/write_own_table.py
 OWN = tables.assemble([(1, tables.SOFT, 372), (9, tables.HARD, 580), (200, tables.HARD, 660)])
 
@@ -30,6 +42,23 @@ def lines(head, loaded):
     return head.encode()
 
 
+def with_thickness(data, mm):
+    """The record with another thickness of member 1, whose part comes first in the samples."""
+    assert data[20] == 1
+    return data[:24] + (10 * mm).to_bytes(2, "little") + data[26:]
+
+
+def thickness_line(name, data):
+    for mm in range(20, 401):
+        line = engineer.Reference(with_thickness(data, mm)).describe()
+        if line.startswith("refused"):
+            return "%s: %s\n" % (name, line)
+        if not line.startswith("overloaded "):
+            assert line.startswith("fits "), "%s: which thickness is least hangs on a free figure" % name
+            return "%s: %d %s\n" % (name, mm, line)
+    return "%s: none\n" % name
+
+
 def files():
     for name, data, _ in records.samples():
         yield name + ".rec", data
@@ -37,6 +66,9 @@ def files():
     yield "own-table.tab", OWN
     yield "printed-table.tab", tables.PRINTED
     yield "own-table-lines.txt", lines(OWN_HEAD, engineer.load(OWN))
+    least = [thickness_line(name, data) for name, data, _ in records.samples() if name in THICKNESSES]
+    yield "thickness-lines.txt", (THICKNESS_HEAD + "".join(least)).encode()
+    yield "root-lines.txt", (ROOT_HEAD + "".join(engineer.root_line(n) + "\n" for n in ROOTS)).encode()
 
 
 def main():

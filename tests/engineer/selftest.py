@@ -1,6 +1,6 @@
 """Tests of the engineer itself: against the figures that document 01 prints, a joint of D30, joints out of line and
 graded ones worked out by the formulas, and against their sentences taken literally with fractions, A3's with all sets
-of dowels; of its writer and its tables against 02's sentences on A2 and A4.
+of dowels; of its writer, its tables and its roots against 02's sentences on A2, A4 and A5.
 
   selftest.py [--count N] [--seed S]     with N records made by chance
 """
@@ -14,6 +14,7 @@ import struct
 import engineer
 import judge
 import records
+import roots
 import tables
 import values
 import written
@@ -478,6 +479,53 @@ def written_all(items):
     return written_ones
 
 
+# a number, its low and high, its root and the halvings; by hand
+ROOTS = (
+    (0, 0, 1, 0, 0), (1, 1, 2, 1, 0), (2, 1, 2, 1, 0), (3, 1, 2, 1, 0), (4, 2, 4, 2, 1), (8, 2, 4, 2, 1), (9, 2, 4, 3, 1),
+    (15, 2, 4, 3, 1), (16, 4, 8, 4, 2), (17, 4, 8, 4, 2), (48, 4, 8, 6, 2), (49, 4, 8, 7, 2), (63, 4, 8, 7, 2), (64, 8, 16, 8, 3),
+    (10 ** 6 - 1, 512, 1024, 999, 9), (10 ** 6, 512, 1024, 1000, 9), (10 ** 12, 524288, 1048576, 1000000, 19),
+    (2 ** 32 - 1, 32768, 65536, 65535, 15), (2 ** 32, 65536, 131072, 65536, 16),
+    (2 ** 62 - 1, 1073741824, 2147483648, 2147483647, 30), (2 ** 62, 2147483648, 4294967296, 2147483648, 31),
+    (2 ** 63, 2147483648, 4294967296, 3037000499, 31), (18446744065119617024, 2147483648, 4294967296, 4294967294, 31),
+    (18446744065119617025, 2147483648, 4294967296, 4294967295, 31), (2 ** 64 - 1, 2147483648, 4294967296, 4294967295, 31),
+)
+
+
+def rooting(seed, count):
+    """Request A5: the numbers above; for small ones all answers; then the literal text and model.py's."""
+    for n, low, high, root, halvings in ROOTS:
+        assert engineer.bracket(n) == (low, high) and engineer.halve(n) == (root, halvings), n
+        assert engineer.root_line(n) == "%d: %d %d %d %d" % (n, low, high, root, halvings)
+    assert engineer.halved(45, 4, 8) == (6, 8) and engineer.halved(45, 6, 8) == (6, 7) and engineer.halved(36, 4, 8) == (6, 8)
+    few = range(34)
+    for n in range(300):
+        low, high, k = literal_bracket(n)
+        passed = [(a, b) for a in few for b in few if engineer.check_bracket(n, a, b) is True]
+        assert passed == [(low, high)], n
+        passed = [(a, b) for a in few for b in few if engineer.check_root(n, a, b) is True]
+        assert passed == [(next(z for z in few if z * z <= n < (z + 1) * (z + 1)), k)], n
+    stand_in, n = judge.StandIn(), -1
+    for n, (label, number) in enumerate(roots.stream(seed, count)):
+        low, high, k = literal_bracket(number)
+        assert engineer.check_bracket(number, low, high) is True, (n, label)
+        root = isqrt(number)
+        # a bracket 2 to the k wide is one wide after k halvings, and not before
+        assert engineer.check_root(number, root, k) is True, (n, label)
+        for by in (-1, 1):
+            assert engineer.check_root(number, root + by, k) is not True, (n, label)
+            assert engineer.check_root(number, root, k + by) is not True, (n, label)
+        assert written.check_roots(stand_in, number, roots.lent(seed, n)) is True, (n, label)
+    return n + 1
+
+
+def literal_bracket(n):
+    """02's A5: 'low, the greatest power of two whose square is not above the number, and high, its double'; and the k."""
+    if n == 0:
+        return 0, 1, 0
+    k = max(k for k in range(roots.BITS) if (2 ** k) ** 2 <= n)
+    return 2 ** k, 2 * 2 ** k, k
+
+
 def main():
     p = argparse.ArgumentParser(description=__doc__)
     p.add_argument("--count", type=int, default=1000)
@@ -492,6 +540,7 @@ def main():
     ties()
     print("printed figures and ties right, the rows of %d joints as the literal text has them" % (3 * a.count))
     print("%d tables, %d of them right, as the literal text has them" % loading(a.seed, 5 * a.count))
+    print("brackets and roots of %d numbers as the literal text has them" % rooting(a.seed, 20 * a.count))
     for items, handed, what in ((plain_items, plain_values, ""), (tabled_items, tabled_values, " with tables")):
         print("%d spacings and %d joints%s as the literal text has them" % (*literal(a.seed, items(a.seed, a.count)), what))
         print("%d records written%s as the literal text has them" % (written_all(handed(a.seed, a.count)), what))

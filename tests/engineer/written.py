@@ -1,5 +1,5 @@
 """Holds a program's answers to the engineer: its lines, what its writer and its reader of values leave in
-every slice, 02's laws of A2 from one to the other, and what it says of a table.
+every slice, 02's laws of A2 from one to the other, what it says of a table, and the brackets and roots that it finds.
 
 table: the bytes handed in, None for the entry that takes none; loaded: what engineer.load gives for them.
 Where no table is handed in, the printed one written as a firm's must give the same answer.
@@ -10,6 +10,7 @@ from values import Handed
 
 WRITE = ("code", "buffer", "answer")
 READ = ("code", "fields", "x", "y", "marks", "answer")
+ROOT = ("code", "answer")
 
 
 def differ(names, want, got):
@@ -104,4 +105,26 @@ def check_read(program, data, lent, line=None, expected=None, table=None, loaded
         other = program.judge(record, table)
         if other != line:
             return "judged again: %r, was %r" % (other, line)
+    return True
+
+
+def check_found(got, answer, check):
+    """True, or the reason why a call that finds a bracket or a root is wrong; check: of the two numbers that it answers."""
+    if isinstance(got, str):
+        return got
+    if len(answer) < 2:
+        return differ(ROOT, (1, answer), got) or True
+    numbers = got[1][:2]
+    return differ(ROOT, (0, numbers + answer[2:]), got) or check(*numbers)
+
+
+def check_roots(program, n, answer):
+    """True, or the reason why the bracket, the root or its halvings are wrong; answer is what each call is lent."""
+    for what, call, check in (("bracket", program.bracket, engineer.check_bracket),
+                              ("root", program.root, engineer.check_root)):
+        # where the slice is too short, a second call with a long enough one
+        for lent in (answer, [7, 7]) if len(answer) < 2 else (answer,):
+            found = check_found(call(n, lent), lent, lambda *numbers: check(n, *numbers))
+            if found is not True:
+                return "%s: %s" % (what, found)
     return True

@@ -1,13 +1,14 @@
-"""Wrong programs, wrong writers and readers, and programs wrong with tables: model.py with one thing changed in each.
-The harness must report all."""
+"""Wrong programs, wrong writers and readers, and programs wrong with tables or with roots: model.py with one thing changed
+in each.  The harness must report all."""
 from itertools import takewhile
-from math import atan2, cos, isqrt, sin      # floating point in wrong programs only
+from math import atan2, cos, isqrt, log2, sin, sqrt      # floating point in wrong programs only
 
 from model import Model, Refused, ceil_div
 
 WRONG = []          # (group, name, class)
 WRONG_WRITERS = []  # the same, for the entries that write and read values
 WRONG_TABLES = []   # (entry that is wrong, name, class), for the entries that take a table
+WRONG_ROOTS = []    # (what is wrong, name, class), for the entries that find brackets and roots
 
 
 def wrong(group, name):
@@ -1762,3 +1763,170 @@ for _k, _what in enumerate(("use one higher", "capacity one lower", "share one l
         z + (1, -1, -1)[i] * (i == k and self.table is not None) for i, z in enumerate(figures))))
     misgrades(_what + " without a table", print_answer=lambda self, *figures, k=_k: Model.print_answer(self, *(
         z + (1, -1, -1)[i] * (i == k and self.table is None) for i, z in enumerate(figures))))
+
+# ----------------------------------------------------------------------------- roots
+
+
+def misroots(what, name, /, **methods):
+    WRONG_ROOTS.append((what, name, type("Wrong", (Model,), methods)))
+
+
+def right_start(self, n):
+    return Model().starting(n)
+
+
+def misbrackets(name, change):
+    """Another bracket but for 0, change(n, low, high); the root is found from the right one."""
+    misroots("bracket", name, begun=right_start,
+             starting=lambda self, n: change(n, *right_start(self, n)) if n else (0, 1))
+
+
+def begins(name, change):
+    """The root looked for from another bracket but for 0, change(n, low, high)."""
+    misroots("root", name, begun=lambda self, n: change(n, *right_start(self, n)) if n else (0, 1))
+
+
+def misfinds(name, change):
+    """Another root or count but for 0, change(n, root, count)."""
+    misroots("root", name, told=lambda self, n, root, count: change(n, root, count) if n else (0, 0))
+
+
+def signed(number, bits):
+    """The low bits, the highest of them a sign, as they stand in 64."""
+    number %= 2 ** bits
+    return (number - (number >> bits - 1 << bits)) % 2 ** 64
+
+
+misbrackets("high the square of low", lambda n, low, high: (low, low * low))
+misbrackets("high four times low", lambda n, low, high: (low, 4 * low))
+misbrackets("high one more than low", lambda n, low, high: (low, low + 1))
+misbrackets("high one less, the greatest root that there may be", lambda n, low, high: (low, high - 1))
+misbrackets("high the number itself", lambda n, low, high: (low, n))
+misbrackets("one power too small", lambda n, low, high: (low // 2, low) if low > 1 else (low, high))
+misbrackets("low one power too small", lambda n, low, high: (low // 2, high) if low > 1 else (low, high))
+misbrackets("one power too large", lambda n, low, high: (high, 2 * high))
+misbrackets("one power too large for squares of powers less one", lambda n, low, high: (
+    (high, 2 * high) if n == high * high - 1 else (low, high)))
+misbrackets("one power too large for roots nearer to high", lambda n, low, high: (
+    (high, 2 * high) if 4 * n >= 9 * low * low else (low, high)))
+misbrackets("low's square below the number, for not above", lambda n, low, high: (
+    (low // 2, low) if n == low * low > 1 else (low, high)))
+misbrackets("low the root", lambda n, low, high: (isqrt(n), high))
+misbrackets("low not above the number, its square not looked at", lambda n, low, high: (
+    1 << n.bit_length() - 1, 1 << n.bit_length()))
+misbrackets("low and high exchanged", lambda n, low, high: (high, low))
+misbrackets("0 and 1 for 1 too", lambda n, low, high: (low, high) if n > 1 else (0, 1))
+misbrackets("high in 32 bits, 2^32 becomes 0", lambda n, low, high: (low, high % 2 ** 32))
+misbrackets("high in 32 bits, at most 2^32 - 1", lambda n, low, high: (low, min(high, 2 ** 32 - 1)))
+misbrackets("low in 32 bits with a sign", lambda n, low, high: (signed(low, 32), high))
+misbrackets("0 and 1 from 2^63 on", lambda n, low, high: (low, high) if n < 2 ** 63 else (0, 1))
+misbrackets("one power too small from 2^62 on", lambda n, low, high: (low, high) if n < 2 ** 62 else (2 ** 30, 2 ** 31))
+misbrackets("the bracket of 2^64 for 2^64 - 1", lambda n, low, high: (low, high) if n < 2 ** 64 - 1 else (2 ** 32, 2 ** 33))
+misbrackets("by a logarithm", lambda n, low, high: (2 ** int(log2(n) / 2), 2 ** int(log2(n) / 2 + 1)))
+for _both in ((1, 2), (0, 0), (1, 1), (0, 2), (1, 0)):
+    misroots("bracket", "%d and %d for 0" % _both, nothing=lambda self, both=_both: both, begun=right_start)
+
+for _by, _what in ((1, "one leading zero more"), (-1, "one leading zero less")):
+    misroots("both", _what, low_bits=lambda self, n, by=_by: max(0, n.bit_length() - 1 - by) // 2)
+for _bits in (32, 63):
+    misroots("both", "the leading zeros of the low %d bits" % _bits, low_bits=lambda self, n, bits=_bits: (
+        max(0, (n % 2 ** bits).bit_length() - 1) // 2))
+misroots("both", "one bracket for all: 1 and 2", low_bits=lambda self, n: 0)
+misroots("both", "one bracket for all: 2^31 and 2^32", low_bits=lambda self, n: 31)
+misroots("both", "0 like 1", nothing=lambda self: (1, self.high(1)))
+misroots("both", "high four times low, halved from there", high=lambda self, low: 4 * low)
+
+misroots("root", "begun at 0 and 2^32", begun=lambda self, n: (0, 2 ** 32))
+begins("begun at 0 and 2^32, but for 0", lambda n, low, high: (0, 2 ** 32))
+begins("begun at 0 and high", lambda n, low, high: (0, high))
+begins("begun one power lower", lambda n, low, high: (low // 2, high))
+begins("begun one power lower for squares of powers", lambda n, low, high: (low // 2 if low * low == n else low, high))
+begins("begun at low and twice high", lambda n, low, high: (low, 2 * high))
+begins("begun at the middle for roots nearer to high", lambda n, low, high: (
+    (low, high) if 4 * n < 9 * low * low or low < 2 else (low + low // 2, high)))
+misroots("root", "ended at a square", ended=lambda self, root, n: root * root == n)
+misroots("root", "the last bit never kept", passes=lambda self, root, n: root % 2 == 0 and root * root <= n)
+misroots("root", "the middle's square below the number, for not above", passes=lambda self, root, n: root * root < n)
+misroots("root", "the middle's square at most one above the number", passes=lambda self, root, n: root * root <= n + 1)
+misroots("root", "squares in 32 bits", passes=lambda self, root, n: root * root % 2 ** 32 <= n)
+misroots("root", "squares with a sign", passes=lambda self, root, n: root * root - (root >> 31 << 64) <= n)
+misroots("root", "the number with a sign", passes=lambda self, root, n: root * root <= n - (n >> 63 << 64))
+misroots("root", "squares by floating point", passes=lambda self, root, n: float(root) ** 2 <= n)
+misroots("root", "the number by floating point", passes=lambda self, root, n: root * root <= int(float(n)))
+misfinds("root to nearest", lambda n, root, count: (root + (n > root * root + root), count))
+misfinds("root rounded up", lambda n, root, count: (root + (n > root * root), count))
+misfinds("root one too large for squares less one", lambda n, root, count: (root + ((root + 1) ** 2 == n + 1), count))
+misfinds("root one too small for squares", lambda n, root, count: (root - (root * root == n), count))
+misfinds("root one too small for the greatest square", lambda n, root, count: (root - (n == (2 ** 32 - 1) ** 2), count))
+misfinds("root 2^32 for the greatest number", lambda n, root, count: (root + (n == 2 ** 64 - 1), count))
+misfinds("root by floating point", lambda n, root, count: (int(sqrt(n)), count))
+misfinds("root in 31 bits", lambda n, root, count: (root % 2 ** 31, count))
+misfinds("root in 32 bits with a sign", lambda n, root, count: (signed(root, 32), count))
+misfinds("high for the root", lambda n, root, count: (root + 1, count))
+misfinds("low for the root", lambda n, root, count: (1 << root.bit_length() - 1, count))
+misfinds("root and halvings exchanged", lambda n, root, count: (count, root))
+misroots("root", "root 1 for 0", told=lambda self, n, root, count: (root if n else 1, count))
+misroots("root", "halvings 1 for 0", told=lambda self, n, root, count: (root, count if n else 1))
+misfinds("one halving more counted", lambda n, root, count: (root, count + 1))
+misfinds("one halving less counted", lambda n, root, count: (root, max(0, count - 1)))
+misfinds("one halving less for the greatest numbers", lambda n, root, count: (root, min(count, 30)))
+misfinds("halvings 1 where there is none", lambda n, root, count: (root, max(1, count)))
+misfinds("halvings 1 for 1", lambda n, root, count: (root, 1 if n == 1 else count))
+misfinds("halvings by the number's bits", lambda n, root, count: (root, n.bit_length() // 2))
+misfinds("halvings 31 for all", lambda n, root, count: (root, 31))
+misfinds("2 to the k for the halvings", lambda n, root, count: (root, 2 ** count))
+misroots("root", "count not raised", one_more=lambda self, count, kept: count)
+misroots("root", "upper halves counted only", one_more=lambda self, count, kept: count + kept)
+misroots("root", "lower halves counted only", one_more=lambda self, count, kept: count + (not kept))
+misroots("root", "count raised by 2", one_more=lambda self, count, kept: count + 2)
+misroots("root", "count in 4 bits", one_more=lambda self, count, kept: (count + 1) % 16)
+misroots("root", "count begun at 1", none_yet=lambda self: 1)
+
+
+def misanswers(name, change):
+    """For each of the two entries a program with the fault in it: change(self, entry, n, answer) calls it, gives the code."""
+    for what in ("bracket", "root"):
+        misroots(what, name, **{what: lambda self, n, answer, entry=getattr(Model, what): change(self, entry, n, answer)})
+
+
+def keeping(places):
+    """The answer in these places only."""
+    def change(self, entry, n, answer):
+        found = list(answer)
+        code = entry(self, n, found)
+        answer[places] = found[places]
+        return code
+    return change
+
+
+def short_told(self, entry, n, answer):
+    """1 for a slice of one number, which is written."""
+    found = (answer + [0])[:2]
+    code = entry(self, n, found)
+    answer[:2] = found[:len(answer)]
+    return int(len(answer) < 2) or code
+
+
+def rest_lost(self, entry, n, answer):
+    code = entry(self, n, answer)
+    answer[2:] = [0] * len(answer[2:])
+    return code
+
+
+misanswers("a slice of one number enough", lambda self, entry, n, answer: one_less(entry, 1, 2)(self, n, answer))
+misanswers("short slice written, and told", short_told)
+misanswers("0 for a short slice", lambda self, entry, n, answer: entry(self, n, answer) * 0)
+misanswers("2 for a short slice", lambda self, entry, n, answer: entry(self, n, answer) * 2)
+misanswers("three numbers needed", lambda self, entry, n, answer: entry(self, n, answer) if len(answer) > 2 else 1)
+misanswers("a longer slice refused", lambda self, entry, n, answer: entry(self, n, answer) if len(answer) < 3 else 1)
+misanswers("a longer slice's rest set to 0", rest_lost)
+misanswers("nothing written", keeping(slice(0, 0)))
+misanswers("the first number only", keeping(slice(0, 1)))
+misanswers("the second number only", keeping(slice(1, 2)))
+misanswers("1 for 0", lambda self, entry, n, answer: entry(self, n, answer) or int(n == 0))
+misanswers("1 for the greatest number", lambda self, entry, n, answer: entry(self, n, answer) or int(n == 2 ** 64 - 1))
+for _bits in (16, 31, 32, 48, 53, 63):
+    misanswers("the number in %d bits" % _bits, lambda self, entry, n, answer, bits=_bits: (
+        entry(self, n % 2 ** bits, answer)))
+misroots("bracket", "root and halvings for low and high", bracket=Model.root)
+misroots("root", "low and high for root and halvings", root=Model.bracket)

@@ -1,5 +1,5 @@
-/* Calls the entries of include/negwishal.h: here judging, every field of it, then the tests of the others.  Those of the
- * entries without a table are made once more with the printed table handed in as bytes.
+/* Calls the entries of include/negwishal.h: here judging, every field of it, then the tests of the others.  Those of
+ * judging, writing and reading without a table are made once more with the printed table handed in as bytes.
  * check JOINT-B DOWELS-599 MEMBER-1-EDGE-719 */
 #include <inttypes.h>
 #include <stdio.h>
@@ -184,6 +184,7 @@ int main(int argc, char **argv)
         check_read(b->bytes, b->length, c->bytes, c->length);
     }
     check_table(b->bytes, b->length);
+    check_root();
 
     printf("header: %d tests, %d faults\n", tests, faults);
     return faults != 0;

@@ -1,4 +1,4 @@
-// The entries of `negwishal` as C sees them: each calls the entry of the same name there, and promises what that promises. A crate of its own,
+// The entries of `negwishal` and `root_entries` as C sees them: each calls the entry of the same name there, and promises what that promises. A crate of its own,
 // since the kit builds a crate as a library or as a static library, and not as both.
 #![tactic(auto)]
 
@@ -6,6 +6,7 @@ ghost use Rattle.std.specs.Prelude.{◌≡◌};
 ghost use Rattle.tables.specs.Table.{printed, own_table, table_number};
 ghost use Rattle.negwishal.specs.Export.{Exported};
 ghost use Rattle.negwishal.specs.Exchange.{places, ReadOut, WroteOut};
+ghost use Rattle.root_entries.specs.Export.{BracketOut, RootOut};
 
 // Loads a firm's own table.
 #[unsafe(no_mangle)]
@@ -97,4 +98,20 @@ pub extern "C" fn negwishal_write_with(
         result buffer.new answer.new }
 {
     negwishal::negwishal_write_with(table, fields, x, y, marks, buffer, answer)
+}
+
+// The starting bracket of a number's whole square root.
+#[unsafe(no_mangle)]
+pub extern "C" fn negwishal_root_bracket(n: u64, answer: &mut [u64]) -> u32
+    ensures { BracketOut n answer.old result answer.new }
+{
+    root_entries::negwishal_root_bracket(n, answer)
+}
+
+// A number's whole square root, and how many halvings led to it.
+#[unsafe(no_mangle)]
+pub extern "C" fn negwishal_whole_root(n: u64, answer: &mut [u64]) -> u32
+    ensures { RootOut n answer.old result answer.new }
+{
+    root_entries::negwishal_whole_root(n, answer)
 }

@@ -11,3 +11,5 @@ pub mod Room
 pub mod Joins
 pub mod Floors
 pub mod Most
+pub mod Starts
+pub mod Narrow

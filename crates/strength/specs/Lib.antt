@@ -2,6 +2,7 @@
 pub mod Fraction
 pub mod Shear
 pub mod Roots
+pub mod Halvings
 pub mod Figures
 pub mod Working
 pub mod Leaves

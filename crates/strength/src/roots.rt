@@ -1,14 +1,71 @@
-// Whole roots. The square root is std's; the fifth root is found by recursive bracketing: it lies between lo and hi, and the width hi - lo
-// falls at each call.
+// Whole roots. The square root's bracket starts at the greatest power of two that may be it and is halved until one number is left; the fifth
+// root is found by recursive bracketing: it lies between lo and hi, and the width hi - lo falls at each call.
 ghost use Rattle.std.specs.Prelude.{◌≡◌, ℕ, ◌+◌, ◌*◌, ◌^◌, ◌<◌, ◌≤◌, true, false, nat_le};
 ghost use Rattle.wide.specs.Natural.{value};
 ghost use Rattle.strength.specs.Roots.{SquareRoot, FifthRoot, FifthBracket, FactorWithin, Inside};
+ghost use Rattle.strength.specs.Halvings.{Starting, Counted};
+
+// A bracket of a whole square root: the root is at least low and below high.
+#[derive(Clone, Copy)]
+pub struct Bracket {
+    pub low: u64,
+    pub high: u64,
+}
+
+// The bracket from which the whole square root of any 64-bit number is looked for, by the number's leading zeros. High reaches 2^32.
+pub fn starting_bracket(n: u64) -> Bracket
+    ensures { Starting n result }
+{
+    if n == 0 {
+        return Bracket { low: 0, high: 1 };
+    }
+    let low = 1u64 << ((63 - n.leading_zeros()) / 2);
+    Bracket { low, high: 2 * low }
+}
+
+// A whole square root, and how many halvings of the starting bracket led to it.
+#[derive(Clone, Copy)]
+pub struct CountedRoot {
+    pub root: u64,
+    pub halvings: u64,
+}
+
+// The whole square root of any 64-bit number, with the halvings counted. Of a bracket it keeps what a test of its middle takes, so that none
+// multiplies: what n has above the square of low, what the middle's square has above it, and the square of half the width. Where the width
+// is 1 the last is 0, and the one before it is low.
+pub fn counted_root(n: u64) -> CountedRoot
+    ensures near { SquareRoot n result.root }
+    ensures counted { Counted n result.root result.halvings }
+{
+    let start = starting_bracket(n);
+    let width = start.high - start.low;
+    let mut above = n - start.low * start.low;
+    let mut square = (width / 2) * (width / 2);
+    let mut needed = start.low * width + square;
+    let mut halvings = 0;
+    while square > 0 {
+        let quarter = square / 4;
+        let lower = needed / 2 - quarter;
+        if above < needed {
+            needed = lower;
+        } else {
+            above -= needed;
+            needed = lower + square;
+        }
+        square = quarter;
+        halvings += 1;
+    }
+    CountedRoot {
+        root: needed,
+        halvings,
+    }
+}
 
 // The whole square root of any 64-bit number.
 pub fn whole_square_root(n: u64) -> u64
     ensures { SquareRoot n result }
 {
-    n.isqrt()
+    counted_root(n).root
 }
 
 // A number from low on and below high at which a test passes and fails at the next one: where the test falls, the greatest at which it passes.
