@@ -1,9 +1,9 @@
 /* Times the entries of negwishal.h against a floating-point and, with WITH_GMP, an exact version of the same jobs,
- * without and with a table of classes, and those for whole square roots, holds their answers to one another, and
- * measures the stack.  bench [--builds OTHER OURS].. [FILE..]: the records in the files are compared too, by every
- * table; a file whose name ends in .tab is one table more.  OTHER and OURS are shared objects of two builds of the
- * library: judging by the one is timed against judging by the other, and their reports are compared; of several pairs
- * each has the code in another place. */
+ * without and with a table of classes, a firm's own or one that two firms share, and those for whole square roots,
+ * holds their answers to one another, and measures the stack.  bench [--builds OTHER OURS].. [FILE..]: the records in
+ * the files are compared too, by every table; a file whose name ends in .tab is one table more, own and shared.  OTHER
+ * and OURS are shared objects of two builds of the library: judging by the one is timed against judging by the other,
+ * and their reports are compared; of several pairs each has the code in another place. */
 #define _GNU_SOURCE
 #include <dlfcn.h>
 #include <inttypes.h>
@@ -20,7 +20,7 @@
 #define BATCH_NS 4000000.0
 #define TIMED 7
 #define JOINTS 8 /* the timed ones, and one that is not timed */
-#define TABLED 3 /* joint B, timed by three tables */
+#define TABLED 7 /* joint B, timed by so many tables */
 #define THICK 2  /* joints that are timed with many thicknesses of member 1 */
 #define THICKNESSES 100
 
@@ -33,16 +33,21 @@ static const struct {
     judge_with_fn *judge_with;
     write_with_fn *write_with;
     read_with_fn *read_with;
+    load_for_fn *load_for;
+    judge_for_fn *judge_for;
+    write_for_fn *write_for;
+    read_for_fn *read_for;
     root_fn *root_bracket;
     root_fn *whole_root;
 } VERSION[] = {
     {"proved", negwishal_judge, negwishal_write, negwishal_read, negwishal_load, negwishal_judge_with,
-     negwishal_write_with, negwishal_read_with, negwishal_root_bracket, negwishal_whole_root},
+     negwishal_write_with, negwishal_read_with, negwishal_load_for, negwishal_judge_for, negwishal_write_for,
+     negwishal_read_for, negwishal_root_bracket, negwishal_whole_root},
     {"float", float_judge, float_write, float_read, float_load, float_judge_with, float_write_with, float_read_with,
-     float_root_bracket, float_whole_root},
+     float_load_for, float_judge_for, float_write_for, float_read_for, float_root_bracket, float_whole_root},
 #ifdef WITH_GMP
     {"GMP", exact_judge, exact_write, exact_read, exact_load, exact_judge_with, exact_write_with, exact_read_with,
-     exact_root_bracket, exact_whole_root},
+     exact_load_for, exact_judge_for, exact_write_for, exact_read_for, exact_root_bracket, exact_whole_root},
 #endif
 };
 enum { VERSIONS = sizeof VERSION / sizeof VERSION[0] };
@@ -59,11 +64,18 @@ struct values {
     uint64_t answer[2]; /* refusal, number of dowels */
 };
 
-/* A firm's table: up to 255 entries of 4 behind 6 bytes, and some bytes more. */
+/* A firm's own table, or a shared one and for which firm a call works: there is room for 255 entries of 4 of each of
+ * two firms behind 10 bytes, and for some bytes more. */
+#define OWN_FRONT 6
+#define SHARED_FRONT 10
+#define ENTRY 4
+#define MOST_ENTRIES 255
 struct table {
     const char *name;
+    int shared;
+    uint32_t firm;
     size_t length;
-    uint8_t bytes[6 + 4 * 255 + 8];
+    uint8_t bytes[SHARED_FRONT + 2 * ENTRY * MOST_ENTRIES + 8];
 };
 
 struct record {
@@ -75,42 +87,61 @@ struct record {
     struct values values;
 };
 
-/* The three jobs by a table; by the printed one where it is NULL. */
-static inline __attribute__((always_inline)) void judge_by(int version, const struct table *t, const uint8_t *record,
-                                                           size_t length, uint64_t *report)
+/* Slices of which so many numbers are needed, and how many. */
+enum slice { REPORT, FIELDS, X, Y, MARKS, ANSWER, SLICES };
+static const size_t ENOUGH[SLICES] = {8, VALUES, DOWELS, DOWELS, DOWELS, 2};
+
+static uint32_t load_by(int version, const struct table *t)
 {
-    if (t == NULL)
-        VERSION[version].judge(record, length, report, 8);
-    else
-        VERSION[version].judge_with(t->bytes, t->length, record, length, report, 8);
+    return t->shared ? VERSION[version].load_for(t->firm, t->bytes, t->length)
+                     : VERSION[version].load(t->bytes, t->length);
 }
 
-static inline __attribute__((always_inline)) void write_by(int version, const struct table *t, const struct values *v,
-                                                           size_t x_len, size_t y_len, uint8_t *buffer, size_t room,
-                                                           uint64_t *answer)
+/* The three jobs by a table; by the printed one where it is NULL.  n: how many numbers the slices have. */
+static inline __attribute__((always_inline)) uint32_t judge_by(int version, const struct table *t,
+                                                               const uint8_t *record, size_t length, const size_t *n,
+                                                               uint64_t *report)
 {
     if (t == NULL)
-        VERSION[version].write(v->fields, VALUES, v->x, x_len, v->y, y_len, v->marks, x_len, buffer, room, answer, 2);
-    else
-        VERSION[version].write_with(t->bytes, t->length, v->fields, VALUES, v->x, x_len, v->y, y_len, v->marks, x_len,
-                                    buffer, room, answer, 2);
+        return VERSION[version].judge(record, length, report, n[REPORT]);
+    if (t->shared)
+        return VERSION[version].judge_for(t->firm, t->bytes, t->length, record, length, report, n[REPORT]);
+    return VERSION[version].judge_with(t->bytes, t->length, record, length, report, n[REPORT]);
 }
 
-static inline __attribute__((always_inline)) void read_by(int version, const struct record *r, struct values *v)
+static inline __attribute__((always_inline)) uint32_t write_by(int version, const struct table *t,
+                                                               const struct values *v, size_t x_len, size_t y_len,
+                                                               const size_t *n, uint8_t *buffer, size_t room,
+                                                               uint64_t *answer)
+{
+    if (t == NULL)
+        return VERSION[version].write(v->fields, n[FIELDS], v->x, x_len, v->y, y_len, v->marks, x_len, buffer, room,
+                                      answer, n[ANSWER]);
+    if (t->shared)
+        return VERSION[version].write_for(t->firm, t->bytes, t->length, v->fields, n[FIELDS], v->x, x_len, v->y, y_len,
+                                          v->marks, x_len, buffer, room, answer, n[ANSWER]);
+    return VERSION[version].write_with(t->bytes, t->length, v->fields, n[FIELDS], v->x, x_len, v->y, y_len, v->marks,
+                                       x_len, buffer, room, answer, n[ANSWER]);
+}
+
+static inline __attribute__((always_inline)) uint32_t read_by(int version, const struct record *r, const size_t *n,
+                                                              struct values *v)
 {
     const struct table *t = r->table;
     if (t == NULL)
-        VERSION[version].read(r->bytes, r->length, v->fields, VALUES, v->x, DOWELS, v->y, DOWELS, v->marks, DOWELS,
-                              v->answer, 2);
-    else
-        VERSION[version].read_with(t->bytes, t->length, r->bytes, r->length, v->fields, VALUES, v->x, DOWELS, v->y,
-                                   DOWELS, v->marks, DOWELS, v->answer, 2);
+        return VERSION[version].read(r->bytes, r->length, v->fields, n[FIELDS], v->x, n[X], v->y, n[Y], v->marks,
+                                     n[MARKS], v->answer, n[ANSWER]);
+    if (t->shared)
+        return VERSION[version].read_for(t->firm, t->bytes, t->length, r->bytes, r->length, v->fields, n[FIELDS], v->x,
+                                         n[X], v->y, n[Y], v->marks, n[MARKS], v->answer, n[ANSWER]);
+    return VERSION[version].read_with(t->bytes, t->length, r->bytes, r->length, v->fields, n[FIELDS], v->x, n[X], v->y,
+                                      n[Y], v->marks, n[MARKS], v->answer, n[ANSWER]);
 }
 
 static void read_values(int version, const struct record *r, struct values *v)
 {
     memset(v, 0x5a, sizeof *v);
-    read_by(version, r, v);
+    read_by(version, r, ENOUGH, v);
 }
 
 /* What a writer leaves: refusal, length, and the buffer whole. */
@@ -123,7 +154,7 @@ static void write_values(int version, const struct table *t, const struct values
                          size_t room, struct written *w)
 {
     memset(w, 0x5a, sizeof *w);
-    write_by(version, t, v, x_len, y_len, w->buffer, room, w->answer);
+    write_by(version, t, v, x_len, y_len, ENOUGH, w->buffer, room, w->answer);
 }
 
 static void put16(struct record *r, unsigned v)
@@ -234,24 +265,59 @@ static void write_records(struct record r[JOINTS])
 
 static void put_entry(struct table *t, unsigned code, unsigned kind, unsigned density)
 {
-    const uint8_t entry[4] = {(uint8_t)code, (uint8_t)kind, (uint8_t)density, (uint8_t)(density >> 8)};
+    const uint8_t entry[ENTRY] = {(uint8_t)code, (uint8_t)kind, (uint8_t)density, (uint8_t)(density >> 8)};
     memcpy(t->bytes + t->length, entry, sizeof entry);
     t->length += sizeof entry;
+}
+
+static void put_numbers(uint8_t *bytes, const size_t *number, int many)
+{
+    for (int k = 0; k < many; k++) {
+        bytes[2 * k] = (uint8_t)number[k];
+        bytes[2 * k + 1] = (uint8_t)(number[k] >> 8);
+    }
 }
 
 /* count, offset and, as it now is, the length of the entries */
 static void put_front(struct table *t)
 {
-    const size_t length = t->length - 6;
-    const uint8_t front[6] = {1, 0, 6, 0, (uint8_t)length, (uint8_t)(length >> 8)};
-    memcpy(t->bytes, front, sizeof front);
+    put_numbers(t->bytes, (const size_t[]){1, OWN_FRONT, t->length - OWN_FRONT}, 3);
+}
+
+/* count, and offset and length of both firms' entries */
+static void put_shared_front(uint8_t *bytes, size_t length_1, size_t length_2)
+{
+    put_numbers(bytes, (const size_t[]){2, SHARED_FRONT, length_1, SHARED_FRONT + length_1, length_2}, 5);
 }
 
 static struct table *start(struct table *t, const char *name)
 {
     t->name = name;
-    t->length = 6;
+    t->shared = 0;
+    t->length = OWN_FRONT;
     return t;
+}
+
+static void put_bytes(struct table *t, const uint8_t *bytes, size_t length)
+{
+    memcpy(t->bytes + t->length, bytes, length);
+    t->length += length;
+}
+
+/* What stands behind the front of a firm's own table, right or faulty. */
+static size_t entries_length(const struct table *own) { return own->length < OWN_FRONT ? 0 : own->length - OWN_FRONT; }
+
+/* A table that two firms share, with what stands behind the fronts of two of their own. */
+static void share(struct table *t, const char *name, const struct table *own_1, const struct table *own_2,
+                  uint32_t firm)
+{
+    t->name = name;
+    t->shared = 1;
+    t->firm = firm;
+    t->length = SHARED_FRONT;
+    put_bytes(t, own_1->bytes + OWN_FRONT, entries_length(own_1));
+    put_bytes(t, own_2->bytes + OWN_FRONT, entries_length(own_2));
+    put_shared_front(t->bytes, entries_length(own_1), entries_length(own_2));
 }
 
 static void one_class(struct table *t, const char *name, unsigned code, unsigned kind, unsigned density)
@@ -328,17 +394,33 @@ static void write_across(struct record *r, const struct table *t, uint8_t class)
     r->table = t;
 }
 
-/* Joint B by the printed table, by its 11 entries, and by 255 entries of which the last is its class. */
+/* Joint B by the printed table, by its 11 entries, and by 255 entries of which the last is its class; then by two
+ * stretches of 11 and of 255, for each firm. */
 static void write_tabled(struct record r[TABLED], const struct record *b)
 {
-    static const char *const names[TABLED] = {"printed table", "table of 11", "table of 255, class last"};
-    static const struct table *const by[TABLED] = {NULL, &tables[PRINTED], &tables[CODES_255]};
+    static const struct {
+        const char *name;
+        int table;
+        uint32_t firm; /* 0: the table is its own */
+    } row[TABLED] = {
+        {"printed table", 0, 0},
+        {"table of 11", PRINTED, 0},
+        {"table of 255, class last", CODES_255, 0},
+        {"11 + 11 shared, firm 1", PRINTED, 1},
+        {"11 + 11 shared, firm 2", PRINTED, 2},
+        {"255 + 255 shared, firm 1", CODES_255, 1},
+        {"255 + 255 shared, firm 2", CODES_255, 2},
+    };
+    static struct table shared[TABLED];
     for (int k = 0; k < TABLED; k++) {
+        const struct table *own = &tables[row[k].table];
+        if (row[k].firm != 0)
+            share(&shared[k], row[k].name, own, own, row[k].firm);
         r[k] = *b;
-        r[k].name = names[k];
-        r[k].table = by[k];
+        r[k].name = row[k].name;
+        r[k].table = k == 0 ? NULL : row[k].firm == 0 ? own : &shared[k];
+        set_classes(&r[k], class_by(row[k].table), class_by(row[k].table));
     }
-    set_classes(&r[2], 255, 255);
 }
 
 /* Joint B, and one of unlike classes with crossed grains and one shear plane, with member 1 40 mm thick and more. */
@@ -367,21 +449,24 @@ static double now_ns(void)
     return 1e9 * (double)t.tv_sec + (double)t.tv_nsec;
 }
 
-/* What the timed and the measured calls write to. */
-static struct values out;
-static uint64_t report[8];
-static uint8_t buffer[ROOM];
+/* What a call writes to. */
+struct out {
+    struct values values;
+    uint64_t report[8];
+    uint8_t buffer[ROOM];
+};
+static struct out out; /* of the timed and the measured calls */
 
-/* One call of a job; the record's values are those that the proved version read. */
-static inline __attribute__((always_inline)) void call(enum job job, int version, const struct record *r)
+/* One call of a job with slices of n numbers; the record's values are those that the proved version read. */
+static inline __attribute__((always_inline)) uint32_t call(enum job job, int version, const struct record *r,
+                                                           const size_t *n, struct out *to)
 {
     const struct values *in = &r->values;
     if (job == JUDGE)
-        judge_by(version, r->table, r->bytes, r->length, report);
-    else if (job == WRITE)
-        write_by(version, r->table, in, in->answer[1], in->answer[1], buffer, ROOM, report);
-    else
-        read_by(version, r, &out);
+        return judge_by(version, r->table, r->bytes, r->length, n, to->report);
+    if (job == WRITE)
+        return write_by(version, r->table, in, in->answer[1], in->answer[1], n, to->buffer, ROOM, to->report);
+    return read_by(version, r, n, &to->values);
 }
 
 /* What is timed: an entry, called with each of so many records or numbers, and again, round after round. */
@@ -403,21 +488,21 @@ static void do_job(const struct timed *t, long rounds)
 {
     for (long i = 0; i < rounds; i++)
         for (int k = 0; k < t->many; k++)
-            call(t->job, t->version, &t->records[k]);
+            call(t->job, t->version, &t->records[k], ENOUGH, &out);
 }
 
 static void judge_by_build(const struct timed *t, long rounds)
 {
     for (long i = 0; i < rounds; i++)
         for (int k = 0; k < t->many; k++)
-            t->judge(t->records[k].bytes, t->records[k].length, report, 8);
+            t->judge(t->records[k].bytes, t->records[k].length, out.report, 8);
 }
 
 static void find_roots(const struct timed *t, long rounds)
 {
     for (long i = 0; i < rounds; i++)
         for (int k = 0; k < t->many; k++)
-            t->root(t->numbers[k], report, 8);
+            t->root(t->numbers[k], out.report, 8);
 }
 
 /* Nanoseconds a round. */
@@ -516,7 +601,7 @@ static int judged_alike(const struct record *r, uint64_t reports[VERSIONS][8])
 {
     int good = values_agree(r);
     for (int v = 0; v < VERSIONS; v++) {
-        judge_by(v, r->table, r->bytes, r->length, reports[v]);
+        judge_by(v, r->table, r->bytes, r->length, ENOUGH, reports[v]);
         good = good && agree(reports[0], reports[v]);
     }
     return good;
@@ -562,36 +647,126 @@ static int print_tally(const struct tally *t, const char *what)
     return t->bad;
 }
 
-/* Joint B's values with each place changed, with lists cut and with buffers of all lengths, written by a table. */
-static void compare_writers(const struct record *b, const struct table *t, struct tally *tally)
+/* Numbers without a pattern, the same in each run (xorshift). */
+static uint64_t any_number(void)
+{
+    static uint64_t state = UINT64_C(0x9e3779b97f4a7c15);
+    state ^= state << 13;
+    state ^= state >> 7;
+    return state ^= state << 17;
+}
+
+/* Tables by which all answers are the same. */
+struct alike {
+    int many;
+    const struct table *by[3];
+    uint32_t number; /* by which they are turned away where that is known without loading them, else 0 */
+};
+
+static struct alike alone(const struct table *t) { return (struct alike){1, {t}, 0}; }
+
+static unsigned u16_at(const uint8_t *b) { return b[0] | (unsigned)b[1] << 8; }
+
+static int is_whole(unsigned length) { return length != 0 && length % ENTRY == 0; }
+
+/* Whether a shared table is laid out as one. */
+static int is_laid(const struct table *t)
+{
+    const uint8_t *b = t->bytes;
+    if (t->length < SHARED_FRONT)
+        return 0;
+    unsigned length_1 = u16_at(b + 4), length_2 = u16_at(b + 8);
+    return u16_at(b) == 2 && u16_at(b + 2) == SHARED_FRONT && u16_at(b + 6) == SHARED_FRONT + length_1
+        && SHARED_FRONT + length_1 + length_2 == t->length && is_whole(length_1) && is_whole(length_2);
+}
+
+/* A stretch with other content: 0 alone, 255 alone, the other firm's entries, or any bytes. */
+static void fill(uint8_t *stretch, size_t length, const uint8_t *others, size_t others_length)
+{
+    const uint64_t how = any_number() % 4;
+    for (size_t i = 0; i < length; i++)
+        stretch[i] = how == 0 ? 0 : how == 1 ? 255 : how == 2 ? others[i % others_length] : (uint8_t)any_number();
+}
+
+/* A shared table for a firm; where it is laid out as one, so with the other firm's stretch filled anew, and a table of
+ * the firm's own with the same entries.  They last until the next call. */
+static struct alike for_firm(const struct table *t, uint32_t firm)
+{
+    static struct table asked, filled, own;
+    asked = *t;
+    asked.shared = 1;
+    asked.firm = firm;
+    if (firm != 1 && firm != 2)
+        return (struct alike){1, {&asked}, 16};
+    if (!is_laid(t))
+        return (struct alike){1, {&asked}, 14};
+    size_t length_1 = u16_at(t->bytes + 4), length_2 = u16_at(t->bytes + 8);
+    filled = asked;
+    uint8_t *entries_1 = filled.bytes + SHARED_FRONT, *entries_2 = entries_1 + length_1;
+    start(&own, t->name);
+    if (firm == 1) {
+        put_bytes(&own, entries_1, length_1);
+        fill(entries_2, length_2, entries_1, length_1);
+    } else {
+        put_bytes(&own, entries_2, length_2);
+        fill(entries_1, length_1, entries_2, length_2);
+    }
+    put_front(&own);
+    return (struct alike){3, {&asked, &filled, &own}, 0};
+}
+
+/* What each version writes of four dowels by each of the tables. */
+static void compare_written(const struct alike *a, const struct values *v, size_t y_len, size_t room,
+                            struct tally *tally)
+{
+    struct written first, w;
+    int bad = 0;
+    write_values(0, a->by[0], v, 4, y_len, room, &first);
+    for (int n = 0; n < VERSIONS; n++)
+        for (int k = 0; k < a->many; k++) {
+            write_values(n, a->by[k], v, 4, y_len, room, &w);
+            bad += memcmp(&first, &w, sizeof w) != 0;
+        }
+    count(tally, first.answer[0], bad != 0);
+}
+
+/* Joint B's values with each place changed, with lists cut and with buffers of all lengths, written by tables alike. */
+static void compare_writers(const struct record *b, const struct alike *a, struct tally *tally)
 {
     static const int32_t other[] = {INT32_MIN, -1, 0, 1, 2, 3, 12, 31, 199, 257, 720, 4001, 65537, 100001, 1000001,
                                     INT32_MAX, 200, 255, 456};
-    struct written w[VERSIONS];
     for (int at = 0; at < VALUES; at++)
         for (size_t k = 0; k < sizeof other / sizeof other[0]; k++)
             for (size_t cut = 0; cut < 3; cut++) {
                 struct values v = b->values;
-                int bad = 0;
                 v.fields[at] = other[k];
-                for (int n = 0; n < VERSIONS; n++) {
-                    write_values(n, t, &v, 4, cut == 1 ? 3 : 4, cut == 2 ? 109 : 120, &w[n]);
-                    bad += memcmp(&w[0], &w[n], sizeof w[n]) != 0;
-                }
-                count(tally, w[0].answer[0], bad);
+                compare_written(a, &v, cut == 1 ? 3 : 4, cut == 2 ? 109 : 120, tally);
             }
-    for (size_t room = 0; room <= 120; room++) {
-        int bad = 0;
-        for (int n = 0; n < VERSIONS; n++) {
-            write_values(n, t, &b->values, 4, 4, room, &w[n]);
-            bad += memcmp(&w[0], &w[n], sizeof w[n]) != 0;
-        }
-        count(tally, w[0].answer[0], bad);
-    }
+    for (size_t room = 0; room <= 120; room++)
+        compare_written(a, &b->values, 4, room, tally);
 }
 
-/* Each record as it is and with classes that a table may have, by this table. */
-static void compare_by(const struct table *t, const struct record *r, int records, struct tally *tally)
+/* Whether each version does the same by each of the tables: judges, reads, and writes the record's values, to the last
+ * number. */
+static int done_alike(struct record *r, const struct alike *a)
+{
+    static struct out first, o;
+    int good = 1;
+    for (int v = 0; v < VERSIONS; v++)
+        for (int j = 0; j < JOBS; j++)
+            for (int k = 0; k < a->many; k++) {
+                struct out *to = k == 0 ? &first : &o;
+                memset(to, 0x5a, sizeof *to);
+                r->table = a->by[k];
+                call(j, v, r, ENOUGH, to);
+                good = good && memcmp(&first, to, sizeof *to) == 0;
+            }
+    r->table = a->by[0];
+    return good;
+}
+
+/* Each record as it is and with classes that a table may have, by these tables. */
+static void compare_by(const struct alike *a, const struct record *r, int records, struct tally *tally)
 {
     static const uint8_t classes[][2] = {{0, 0}, {1, 200}, {200, 200}, {9, 255}, {255, 1}};
     static struct record by;
@@ -599,56 +774,189 @@ static void compare_by(const struct table *t, const struct record *r, int record
     for (int i = 0; i < records; i++)
         for (size_t k = 0; k < sizeof classes / sizeof classes[0]; k++) {
             by = r[i];
-            by.table = t;
+            by.table = a->by[0];
             if (k > 0)
                 set_classes(&by, classes[k][0], classes[k][1]);
             int good = judged_alike(&by, reports);
+            if (a->many > 1) {
+                read_values(0, &by, &by.values);
+                good = done_alike(&by, a) && good;
+            }
             if (!good) {
-                printf("by the table '%s':\n", t->name);
+                printf("by the table '%s':\n", by.table->name);
                 print_reports(by.name, reports, good);
             }
             count(tally, reports[0][1], !good);
         }
 }
 
-/* What each version says of a table, and of joint B by it. */
-static void compare_loading(const struct table *t, const struct record *b, struct tally *tally)
+/* What each version says of tables alike, and of joint B by each of them. */
+static void compare_loading(const struct alike *a, const struct record *b, struct tally *tally)
 {
-    uint64_t reports[VERSIONS][8];
-    uint32_t loaded = VERSION[0].load(t->bytes, t->length);
-    int bad = 0;
+    uint64_t reports[VERSIONS][8], same[8];
+    uint32_t loaded = load_by(0, a->by[0]);
+    int bad = a->number != 0 && loaded != a->number;
     for (int v = 0; v < VERSIONS; v++) {
-        bad += VERSION[v].load(t->bytes, t->length) != loaded;
-        judge_by(v, t, b->bytes, b->length, reports[v]);
+        judge_by(v, a->by[0], b->bytes, b->length, ENOUGH, reports[v]);
         bad += !agree(reports[0], reports[v]) || (loaded != 0 && reports[v][1] != loaded);
+        for (int k = 0; k < a->many; k++) {
+            bad += load_by(v, a->by[k]) != loaded;
+            judge_by(v, a->by[k], b->bytes, b->length, ENOUGH, same);
+            bad += memcmp(same, reports[v], sizeof same) != 0;
+        }
     }
+    if (bad != 0 && tally->bad < 5)
+        print_reports(a->by[0]->name, reports, 0);
     count(tally, loaded, bad != 0);
 }
 
-/* Tables of three entries, the first and the last at a limit: cut and with bytes more, whatever length they say; each
- * byte changed to each value, as it is and with a byte more. */
+/* So of a shared table for firms of many numbers. */
+static void compare_firms(const struct table *t, const struct record *b, struct tally *tally)
+{
+    static const uint32_t firms[] = {0, 1, 2, 3, 4, 255, 256, 257, 258, 65536, 65537, 65538, UINT32_C(0x1000001),
+                                     UINT32_C(0x80000002), UINT32_MAX};
+    for (size_t k = 0; k < sizeof firms / sizeof firms[0]; k++) {
+        const struct alike a = for_firm(t, firms[k]);
+        compare_loading(&a, b, tally);
+    }
+}
+
+static void compare_table(const struct table *t, const struct record *b, struct tally *tally)
+{
+    if (t->shared) {
+        compare_firms(t, b, tally);
+        return;
+    }
+    const struct alike a = alone(t);
+    compare_loading(&a, b, tally);
+}
+
+/* A table cut and with bytes more; each byte changed, with a step of 1 to each value, as it is and with a byte more. */
+static void compare_damaged(const struct table *base, unsigned step, const struct record *b, struct tally *tally)
+{
+    static struct table t;
+    t = *base;
+    for (t.length = 0; t.length <= base->length + 8; t.length++)
+        compare_table(&t, b, tally);
+    for (size_t at = 0; at < base->length; at++)
+        for (unsigned change = 1; change < 256; change += step)
+            for (size_t more = 0; more < 2; more++) {
+                t = *base;
+                t.length += more;
+                t.bytes[at] ^= (uint8_t)change;
+                compare_table(&t, b, tally);
+            }
+}
+
+/* Tables of three entries, the first and the last at a limit: cut and with bytes more, whatever length they say, and
+ * damaged. */
 static void compare_loadings(const struct record *b, struct tally *tally)
 {
-    struct table base, t;
+    static struct table base, t;
     put_entry(start(&base, "three entries"), 1, 0, 290);
     put_entry(&base, 9, 1, 580);
     put_entry(&base, 200, 1, 1100);
     put_front(&base);
-    memset(base.bytes + base.length, 0, sizeof base.bytes - base.length);
-    for (size_t length = 0; length <= base.length + 8; length++)
+    t = base;
+    for (t.length = 0; t.length <= base.length + 8; t.length++)
         for (unsigned said = 0; said <= 24; said++) { /* the length that it says */
-            t = base;
-            t.length = length;
             t.bytes[4] = (uint8_t)said;
-            compare_loading(&t, b, tally);
+            compare_table(&t, b, tally);
         }
-    for (size_t at = 0; at < base.length; at++)
-        for (unsigned byte = 0; byte < 256; byte++)
-            for (size_t more = 0; more < 2; more++) {
-                t = base;
-                t.length += more;
-                t.bytes[at] = (uint8_t)byte;
-                compare_loading(&t, b, tally);
+    compare_damaged(&base, 1, b, tally);
+}
+
+/* The same of a table that two firms share, of two entries and three, whatever length it says of either. */
+static void compare_shared_loadings(const struct record *b, struct tally *tally)
+{
+    static struct table own_1, own_2, base, t;
+    put_entry(start(&own_1, "two entries"), 1, 0, 290);
+    put_entry(&own_1, 200, 1, 1100);
+    put_entry(start(&own_2, "three entries"), 1, 1, 580);
+    put_entry(&own_2, 9, 0, 600);
+    put_entry(&own_2, 255, 1, 1100);
+    share(&base, "two entries and three", &own_1, &own_2, 0);
+    t = base;
+    for (t.length = 0; t.length <= base.length + 8; t.length++)
+        for (size_t length_1 = 0; length_1 <= 18; length_1++)
+            for (size_t length_2 = 0; length_2 <= 22; length_2++) {
+                put_shared_front(t.bytes, length_1, length_2);
+                compare_table(&t, b, tally);
+            }
+    compare_damaged(&base, 1, b, tally);
+}
+
+/* Shared tables with more bytes than 16 bits count, of one right entry and zeros: whole, and as long as 16 bits say. */
+static void compare_long(struct tally *tally)
+{
+    static const size_t lengths[][2] = {{4, 65516}, {4, 65520}, {4, 65524}, {4, 65532}, {65520, 4}, {65524, 4},
+                                        {65528, 4}, {65524, 65532}};
+    static uint8_t bytes[SHARED_FRONT + 2 * 65536] = {[SHARED_FRONT] = 1, 0, 350 & 255, 350 >> 8};
+    for (size_t k = 0; k < sizeof lengths / sizeof lengths[0]; k++)
+        for (int cut = 0; cut < 2; cut++)
+            for (uint32_t firm = 0; firm <= 3; firm++) {
+                size_t whole = SHARED_FRONT + lengths[k][0] + lengths[k][1];
+                size_t length = cut ? whole % 65536 : whole;
+                put_shared_front(bytes, lengths[k][0], lengths[k][1]);
+                uint32_t loaded = VERSION[0].load_for(firm, bytes, length);
+                int bad = 0;
+                for (int v = 1; v < VERSIONS; v++)
+                    bad += VERSION[v].load_for(firm, bytes, length) != loaded;
+                count(tally, loaded, bad != 0);
+            }
+}
+
+/* Whether the versions leave the same where this slice is a number short, or none is, and return this code; nothing is
+ * to be left where that is not 0. */
+static int short_alike(enum job job, const struct record *r, enum slice slice, uint32_t code)
+{
+    static struct out first, o;
+    size_t n[SLICES];
+    int good = 1;
+    memcpy(n, ENOUGH, sizeof n);
+    if (slice < SLICES)
+        n[slice]--;
+    memset(&first, 0x5a, sizeof first);
+    if (code == 0)
+        call(job, 0, r, n, &first);
+    for (int v = 0; v < VERSIONS; v++) {
+        memset(&o, 0x5a, sizeof o);
+        good = good && call(job, v, r, n, &o) == code;
+        if (code == 0 && job == JUDGE)
+            good = good && agree(first.report, o.report);
+        else
+            good = good && memcmp(&first, &o, sizeof o) == 0;
+    }
+    return good;
+}
+
+/* Each job by tables right and turned away, with enough and with each slice in turn a number short: 1 where the job
+ * needs it, whatever the table. */
+static void compare_short(const struct record *b, struct tally *tally)
+{
+    static const unsigned needed[JOBS] = {
+        [JUDGE] = 1 << REPORT,
+        [WRITE] = 1 << FIELDS | 1 << ANSWER,
+        [READ] = 1 << FIELDS | 1 << X | 1 << Y | 1 << MARKS | 1 << ANSWER,
+    };
+    static struct table shared[6];
+    static struct record by;
+    const struct table *const one = &tables[HARD_900], *const other = &tables[SOFT_900];
+    const struct table *tried[] = {NULL, one, &tables[LATE], &tables[DENSE], &shared[0], &shared[1], &shared[2],
+                                   &shared[3], &shared[4], &shared[5]};
+    share(&shared[0], "right, firm 1", one, other, 1);
+    share(&shared[1], "right, firm 2", one, other, 2);
+    share(&shared[2], "firm 257", one, other, 257);
+    share(&shared[3], "14, firm 0", &tables[TRAILING], other, 0);
+    share(&shared[4], "14, firm 1", one, &tables[TRAILING], 1);
+    share(&shared[5], "15, firm 1", &tables[DENSE], other, 1);
+    by = *b;
+    for (size_t k = 0; k < sizeof tried / sizeof tried[0]; k++)
+        for (int slice = 0; slice <= SLICES; slice++)
+            for (int j = 0; j < JOBS; j++) {
+                uint32_t code = needed[j] >> slice & 1;
+                by.table = tried[k];
+                count(tally, code, !short_alike(j, &by, slice, code));
             }
 }
 
@@ -668,15 +976,6 @@ static int compare_thick(const struct record thick[THICK][THICKNESSES])
 }
 
 /* ---- whole square roots */
-
-/* Numbers without a pattern, the same in each run (xorshift). */
-static uint64_t any_number(void)
-{
-    static uint64_t state = UINT64_C(0x9e3779b97f4a7c15);
-    state ^= state << 13;
-    state ^= state >> 7;
-    return state ^= state << 17;
-}
 
 /* One of 1 to 64 bits. */
 static uint64_t any_of_bits(unsigned bits) { return (any_number() | UINT64_C(1) << 63) >> (64 - bits); }
@@ -762,7 +1061,7 @@ static void *dig(void *p)
     volatile uint8_t *top = frame - NEAR;
     for (volatile uint8_t *b = g->low; b < top; b++)
         *b = g->pattern;
-    call(g->job, g->version, g->record);
+    call(g->job, g->version, g->record, ENOUGH, &out);
     volatile uint8_t *b = g->low;
     while (b < top && *b == g->pattern)
         b++;
@@ -831,7 +1130,7 @@ static int print_times(enum job job, const struct record *joints, double ns[TIME
     return missed;
 }
 
-/* The times of a job by three tables, set against the printed one. */
+/* The times of a job by these tables, set against the printed one. */
 static void print_tabled(enum job job, const struct record *tabled, double ns[TABLED][JOBS][VERSIONS])
 {
     print_head(JOB[job], NARROW);
@@ -1034,14 +1333,79 @@ static int compare_tables(int many_tables, const struct record *r, int records, 
     across.name = "14 before the record's 4";
     bad += !compare(&across);
     for (int k = 0; k < many_tables; k++) {
-        compare_by(&tables[k], r, records, &records_by);
-        compare_writers(b, &tables[k], &values_by);
-        compare_loading(&tables[k], b, &loadings);
+        const struct alike a = alone(&tables[k]);
+        compare_by(&a, r, records, &records_by);
+        compare_writers(b, &a, &values_by);
+        compare_table(&tables[k], b, &loadings);
     }
     compare_loadings(b, &loadings);
     bad += print_tally(&records_by, "records judged, read and written again by tables");
     bad += print_tally(&values_by, "sets of values written by tables");
     return bad + print_tally(&loadings, "tables loaded and joint B judged by each");
+}
+
+/* Joint B by pairs of the tables, in a line for a firm. */
+static int print_shared(void)
+{
+    static const struct {
+        const char *name;
+        int first, second;
+        uint32_t firm;
+    } row[] = {
+        {"firm 1: hardwood 900", HARD_900, SOFT_900, 1},  {"firm 2: softwood 900", HARD_900, SOFT_900, 2},
+        {"15: firm 1's density", DENSE, SOFT_900, 1},     {"firm 2 beside it", DENSE, SOFT_900, 2},
+        {"14: firm 1's length", TRAILING, SOFT_900, 1},   {"14: firm 2 beside it", TRAILING, SOFT_900, 2},
+        {"14 before 15: firm 1", DENSE, TRAILING, 1},     {"16: firm 257", HARD_900, SOFT_900, 257},
+        {"16 before 14: firm 0", NO_BYTES, NO_BYTES, 0},
+    };
+    static struct table shared;
+    static struct record across;
+    int bad = 0;
+    for (size_t k = 0; k < sizeof row / sizeof row[0]; k++) {
+        share(&shared, row[k].name, &tables[row[k].first], &tables[row[k].second], row[k].firm);
+        write_across(&across, &shared, 1);
+        bad += !compare(&across);
+    }
+    return bad;
+}
+
+/* All records and values by a shared table, for both firms and two that are neither. */
+static void compare_shared_by(const struct table *shared, const struct record *r, int records, const struct record *b,
+                              struct tally *records_by, struct tally *values_by)
+{
+    static const uint32_t firms[] = {1, 2, 0, 257};
+    for (size_t k = 0; k < sizeof firms / sizeof firms[0]; k++) {
+        const struct alike a = for_firm(shared, firms[k]);
+        compare_by(&a, r, records, records_by);
+        compare_writers(b, &a, values_by);
+    }
+}
+
+/* Each pair of the tables loaded as a shared one; pairs in which each is either firm's damaged, and all records and
+ * values by them and by the tables as they are; and tables damaged in many ways. */
+static int compare_shared(int many_tables, const struct record *r, int records, const struct record *b)
+{
+    static struct table t;
+    struct tally records_by = {0, 0, 0}, values_by = {0, 0, 0}, loadings = {0, 0, 0}, shorts = {0, 0, 0};
+    int bad = print_shared();
+    for (int k = 0; k < many_tables; k++) {
+        for (int i = 0; i < many_tables; i++) {
+            share(&t, tables[k].name, &tables[k], &tables[i], 0);
+            compare_table(&t, b, &loadings);
+        }
+        compare_firms(&tables[k], b, &loadings);
+        compare_shared_by(&tables[k], r, records, b, &records_by, &values_by);
+        share(&t, tables[k].name, &tables[k], &tables[(k + 1) % many_tables], 0);
+        compare_damaged(&t, 85, b, &loadings);
+        compare_shared_by(&t, r, records, b, &records_by, &values_by);
+    }
+    compare_shared_loadings(b, &loadings);
+    compare_long(&loadings);
+    compare_short(b, &shorts);
+    bad += print_tally(&records_by, "records judged, read and written again by shared tables");
+    bad += print_tally(&values_by, "sets of values written by shared tables");
+    bad += print_tally(&loadings, "shared tables loaded and joint B judged by each");
+    return bad + print_tally(&shorts, "calls with slices of enough numbers and of one less");
 }
 
 #define FILES 100
@@ -1069,7 +1433,8 @@ int main(int argc, char **argv)
     printf("\n");
     for (int k = 0; k < many; k++)
         bad += !compare(&records[k]);
-    compare_writers(&joints[0], NULL, &written);
+    const struct alike printed = alone(NULL);
+    compare_writers(&joints[0], &printed, &written);
     bad += print_tally(&written, "sets of values written by each version");
     bad += compare_thick(thick);
     bad += compare_roots();
@@ -1077,6 +1442,9 @@ int main(int argc, char **argv)
     printf("\nAnswers by %d tables: joint B in wide outlines, force (0, 20000), then all records and values\n",
            many_tables);
     bad += compare_tables(many_tables, records, many, &joints[0]);
+    printf("\nAnswers by pairs of these as a table that two firms share, for each firm; the same where the other's\n"
+           "entries are filled anew, and by a table of the firm's own with the same entries\n");
+    bad += compare_shared(many_tables, records, many, &joints[0]);
     write_tabled(tabled, &joints[0]);
     for (int k = 0; k < TABLED; k++)
         read_values(0, &tabled[k], &tabled[k].values);
@@ -1088,7 +1456,8 @@ int main(int argc, char **argv)
     for (int j = 0; j < JOBS; j++)
         missed += print_times(j, joints, ns);
 
-    printf("\nTime of joint B by three tables, which take turns too\n");
+    printf("\nTime of joint B by %d tables, which take turns too; a shared one has the same entries for either firm\n",
+           TABLED);
     time_records(tabled, TABLED, ns_by);
     for (int j = 0; j < JOBS; j++)
         print_tabled(j, tabled, ns_by);

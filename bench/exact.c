@@ -48,14 +48,12 @@ static int32_t i32_at(const uint8_t *b)
     return (int32_t)(b[0] | (uint32_t)b[1] << 8 | (uint32_t)b[2] << 16 | (uint32_t)b[3] << 24);
 }
 
-/* Refusals 14 and 15 of a firm's table, or 0. */
-static unsigned load(const uint8_t *b, size_t length, struct table *t)
+/* Refusal 15 of entries, or 0. */
+static unsigned load_entries(const uint8_t *b, size_t length, struct table *t)
 {
     unsigned before = 0;
-    if (length < 10 || length % 4 != 2 || u16_at(b) != 1 || u16_at(b + 2) != 6 || 6u + u16_at(b + 4) != length)
-        return 14;
     memset(t, 0, sizeof *t);
-    for (size_t i = 6; i < length; i += 4) {
+    for (size_t i = 0; i < length; i += 4) {
         unsigned code = b[i], kind = b[i + 1], density = u16_at(b + i + 2);
         if (code <= before || kind > 1 || density < 290 || density > 1100)
             return 15;
@@ -64,6 +62,29 @@ static unsigned load(const uint8_t *b, size_t length, struct table *t)
         before = code;
     }
     return 0;
+}
+
+/* Refusals 14 and 15 of a firm's own table, or 0. */
+static unsigned load(const uint8_t *b, size_t length, struct table *t)
+{
+    if (length < 10 || length % 4 != 2 || u16_at(b) != 1 || u16_at(b + 2) != 6 || 6u + u16_at(b + 4) != length)
+        return 14;
+    return load_entries(b + 6, length - 6, t);
+}
+
+/* Refusals 14 to 16 of what a firm has of a shared table, or 0. */
+static unsigned load_for(uint32_t firm, const uint8_t *b, size_t length, struct table *t)
+{
+    if (firm != 1 && firm != 2)
+        return 16;
+    if (length < 18 || u16_at(b) != 2)
+        return 14;
+    unsigned first = u16_at(b + 4), second = u16_at(b + 8);
+    if (u16_at(b + 2) != 10 || u16_at(b + 6) != 10 + first || 10 + first + second != length)
+        return 14;
+    if (first == 0 || second == 0 || first % 4 != 0 || second % 4 != 0)
+        return 14;
+    return firm == 1 ? load_entries(b + 10, first, t) : load_entries(b + 10 + first, second, t);
 }
 
 static int within(int32_t z, int32_t limit) { return -limit <= z && z <= limit; }
@@ -469,6 +490,22 @@ uint32_t exact_judge_with(const uint8_t *table, size_t table_len, const uint8_t 
     return 0;
 }
 
+uint32_t exact_load_for(uint32_t firm, const uint8_t *shared, size_t shared_len)
+{
+    struct table own;
+    return load_for(firm, shared, shared_len, &own);
+}
+
+uint32_t exact_judge_for(uint32_t firm, const uint8_t *shared, size_t shared_len, const uint8_t *record,
+                         size_t record_len, uint64_t *report, size_t report_len)
+{
+    struct table own;
+    if (report_len < 8)
+        return 1;
+    judge(load_for(firm, shared, shared_len, &own), &own, record, record_len, report);
+    return 0;
+}
+
 /* ---- values: 27 numbers in the header's order, x and y */
 
 enum { VALUES = 27, MEMBER_VALUES = 9, VERSION = 1 };
@@ -578,6 +615,21 @@ uint32_t exact_write_with(const uint8_t *table, size_t table_len, const int32_t 
     return 0;
 }
 
+uint32_t exact_write_for(uint32_t firm, const uint8_t *shared, size_t shared_len, const int32_t *fields,
+                         size_t fields_len, const int32_t *x, size_t x_len, const int32_t *y, size_t y_len,
+                         const int32_t *marks, size_t marks_len, uint8_t *buffer, size_t buffer_len,
+                         uint64_t *answer, size_t answer_len)
+{
+    struct table own;
+    (void)marks;
+    (void)marks_len;
+    if (fields_len < VALUES || answer_len < 2)
+        return 1;
+    write_values(load_for(firm, shared, shared_len, &own), &own, fields, (const int32_t *const[2]){x, y}, x_len, y_len,
+                 buffer, buffer_len, answer);
+    return 0;
+}
+
 /* number: by what the table was refused, or 0.  to: x, y and marks. */
 static void read_values(unsigned number, const struct table *table, const uint8_t *record, size_t record_len,
                         int32_t *fields, int32_t *const to[3], uint64_t *answer)
@@ -633,6 +685,18 @@ uint32_t exact_read_with(const uint8_t *table, size_t table_len, const uint8_t *
         return 1;
     read_values(load(table, table_len, &own), &own, record, record_len, fields, (int32_t *const[3]){x, y, marks},
                 answer);
+    return 0;
+}
+
+uint32_t exact_read_for(uint32_t firm, const uint8_t *shared, size_t shared_len, const uint8_t *record,
+                        size_t record_len, int32_t *fields, size_t fields_len, int32_t *x, size_t x_len, int32_t *y,
+                        size_t y_len, int32_t *marks, size_t marks_len, uint64_t *answer, size_t answer_len)
+{
+    struct table own;
+    if (read_short(fields_len, x_len, y_len, marks_len, answer_len))
+        return 1;
+    read_values(load_for(firm, shared, shared_len, &own), &own, record, record_len, fields,
+                (int32_t *const[3]){x, y, marks}, answer);
     return 0;
 }
 

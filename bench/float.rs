@@ -23,6 +23,14 @@ const KMOD: [[f64; 5]; 3] = [
     [0.50, 0.55, 0.65, 0.70, 0.90],
 ];
 
+// What a call is lent for its classes: nothing, a firm's own table, or a firm's number and one that two firms share.
+#[derive(Clone, Copy)]
+enum Lent<'a> {
+    Nothing,
+    Own(&'a [u8]),
+    Shared(u32, &'a [u8]),
+}
+
 // By which table classes are read: the printed one, or a firm's, as its entries of 4 bytes.
 #[derive(Clone, Copy)]
 enum Table<'a> {
@@ -83,18 +91,35 @@ fn refuse<T>(number: u64) -> Result<T, Refusal> {
     Err([number, 0, 0, 0])
 }
 
-// Refusals 14 and 15. No table handed in: the printed one.
-fn load(own: Option<&[u8]>) -> Result<Table<'_>, Refusal> {
-    let Some(b) = own else {
-        return Ok(Table::Printed);
+// What so many pairs name: stretches of whole entries, end to end behind the pairs up to the last byte; or refusal 14.
+fn stretches<const PAIRS: usize>(b: &[u8]) -> Result<[&[u8]; PAIRS], Refusal> {
+    let mut end = 2 + 4 * PAIRS;
+    let mut named = [&b[..0]; PAIRS];
+    if b.len() < end || u16_at(b, 0) != PAIRS {
+        return refuse(14);
+    }
+    for (k, stretch) in named.iter_mut().enumerate() {
+        let (offset, length) = (u16_at(b, 2 + 4 * k), u16_at(b, 4 + 4 * k));
+        if offset != end || length == 0 || length % 4 != 0 || b.len() - end < length {
+            return refuse(14);
+        }
+        *stretch = &b[end..end + length];
+        end += length;
+    }
+    if end != b.len() {
+        return refuse(14);
+    }
+    Ok(named)
+}
+
+// Refusals 14 to 16. No table handed in: the printed one.
+fn load(lent: Lent<'_>) -> Result<Table<'_>, Refusal> {
+    let entries = match lent {
+        Lent::Nothing => return Ok(Table::Printed),
+        Lent::Own(b) => stretches::<1>(b)?[0],
+        Lent::Shared(firm @ 1..=2, b) => stretches::<2>(b)?[firm as usize - 1],
+        Lent::Shared(..) => return refuse(16),
     };
-    if b.len() < 6 || [u16_at(b, 0), u16_at(b, 2), u16_at(b, 4)] != [1, 6, b.len() - 6] {
-        return refuse(14);
-    }
-    let entries = &b[6..];
-    if entries.is_empty() || entries.len() % 4 != 0 {
-        return refuse(14);
-    }
     let mut before = 0;
     for e in entries.chunks_exact(4) {
         if e[0] <= before || e[1] > 1 || !(290..=1100).contains(&u16_at(e, 2)) {
@@ -307,9 +332,9 @@ fn share(j: &Joint, m: &Member) -> f64 {
     least
 }
 
-fn judge(own: Option<&[u8]>, b: &[u8]) -> [u64; 8] {
+fn judge(lent: Lent, b: &[u8]) -> [u64; 8] {
     let refused = |r: Refusal| [0, r[0], r[1], r[2], r[3], 0, 0, 0];
-    let j = match load(own).and_then(|table| read(b, table)) {
+    let j = match load(lent).and_then(|table| read(b, table)) {
         Ok(j) => j,
         Err(r) => return refused(r),
     };
@@ -335,9 +360,9 @@ fn judge(own: Option<&[u8]>, b: &[u8]) -> [u64; 8] {
     [verdict, 0, 0, 0, 0, u, r as u64, (10_000. * share1.min(share2)) as u64]
 }
 
-// The slices as C hands them over; `own` is none where the printed table is meant.
+// The slices as C hands them over.
 unsafe fn judge_lent(
-    own: Option<&[u8]>,
+    lent: Lent,
     record: *const u8,
     record_len: usize,
     report: *mut u64,
@@ -348,7 +373,7 @@ unsafe fn judge_lent(
     }
     let record = unsafe { std::slice::from_raw_parts(record, record_len) };
     let report = unsafe { std::slice::from_raw_parts_mut(report, report_len) };
-    report[..8].copy_from_slice(&judge(own, record));
+    report[..8].copy_from_slice(&judge(lent, record));
     0
 }
 
@@ -356,15 +381,25 @@ unsafe fn judge_lent(
 /// The two slices are as include/negwishal.h says for negwishal_judge.
 #[no_mangle]
 pub unsafe extern "C" fn float_judge(record: *const u8, record_len: usize, report: *mut u64, report_len: usize) -> u32 {
-    unsafe { judge_lent(None, record, record_len, report, report_len) }
+    unsafe { judge_lent(Lent::Nothing, record, record_len, report, report_len) }
+}
+
+fn code_of(lent: Lent) -> u32 {
+    load(lent).err().map_or(0, |r| r[0] as u32)
 }
 
 /// # Safety
 /// The slice is as include/negwishal.h says for negwishal_load.
 #[no_mangle]
 pub unsafe extern "C" fn float_load(table: *const u8, table_len: usize) -> u32 {
-    let table = unsafe { std::slice::from_raw_parts(table, table_len) };
-    load(Some(table)).err().map_or(0, |r| r[0] as u32)
+    code_of(Lent::Own(unsafe { std::slice::from_raw_parts(table, table_len) }))
+}
+
+/// # Safety
+/// The slice is as include/negwishal.h says for negwishal_load_for.
+#[no_mangle]
+pub unsafe extern "C" fn float_load_for(firm: u32, shared: *const u8, shared_len: usize) -> u32 {
+    code_of(Lent::Shared(firm, unsafe { std::slice::from_raw_parts(shared, shared_len) }))
 }
 
 /// # Safety
@@ -379,8 +414,26 @@ pub unsafe extern "C" fn float_judge_with(
     report_len: usize,
 ) -> u32 {
     unsafe {
-        let table = std::slice::from_raw_parts(table, table_len);
-        judge_lent(Some(table), record, record_len, report, report_len)
+        let lent = Lent::Own(std::slice::from_raw_parts(table, table_len));
+        judge_lent(lent, record, record_len, report, report_len)
+    }
+}
+
+/// # Safety
+/// The slices are as include/negwishal.h says for negwishal_judge_for.
+#[no_mangle]
+pub unsafe extern "C" fn float_judge_for(
+    firm: u32,
+    shared: *const u8,
+    shared_len: usize,
+    record: *const u8,
+    record_len: usize,
+    report: *mut u64,
+    report_len: usize,
+) -> u32 {
+    unsafe {
+        let lent = Lent::Shared(firm, std::slice::from_raw_parts(shared, shared_len));
+        judge_lent(lent, record, record_len, report, report_len)
     }
 }
 
@@ -488,7 +541,7 @@ fn write_joint(j: &Joint, buffer: &mut [u8]) {
 
 #[allow(clippy::too_many_arguments)]
 unsafe fn write_lent(
-    own: Option<&[u8]>,
+    lent: Lent,
     fields: *const i32,
     fields_len: usize,
     x: *const i32,
@@ -508,7 +561,7 @@ unsafe fn write_lent(
     let buffer = unsafe { std::slice::from_raw_parts_mut(buffer, buffer_len) };
     let answer = unsafe { std::slice::from_raw_parts_mut(answer, answer_len) };
     let length = 78 + 8 * x_len;
-    let made = match load(own).and_then(|table| take(fields, x, y, table)) {
+    let made = match load(lent).and_then(|table| take(fields, x, y, table)) {
         Err(r) => Err(r[0]),
         Ok(_) if buffer_len < length => Err(13),
         Ok(j) => Ok(j),
@@ -540,7 +593,7 @@ pub unsafe extern "C" fn float_write(
     answer: *mut u64,
     answer_len: usize,
 ) -> u32 {
-    unsafe { write_lent(None, fields, fields_len, x, x_len, y, y_len, buffer, buffer_len, answer, answer_len) }
+    unsafe { write_lent(Lent::Nothing, fields, fields_len, x, x_len, y, y_len, buffer, buffer_len, answer, answer_len) }
 }
 
 /// # Safety
@@ -563,14 +616,40 @@ pub unsafe extern "C" fn float_write_with(
     answer_len: usize,
 ) -> u32 {
     unsafe {
-        let table = std::slice::from_raw_parts(table, table_len);
-        write_lent(Some(table), fields, fields_len, x, x_len, y, y_len, buffer, buffer_len, answer, answer_len)
+        let lent = Lent::Own(std::slice::from_raw_parts(table, table_len));
+        write_lent(lent, fields, fields_len, x, x_len, y, y_len, buffer, buffer_len, answer, answer_len)
+    }
+}
+
+/// # Safety
+/// The slices are as include/negwishal.h says for negwishal_write_for.
+#[no_mangle]
+pub unsafe extern "C" fn float_write_for(
+    firm: u32,
+    shared: *const u8,
+    shared_len: usize,
+    fields: *const i32,
+    fields_len: usize,
+    x: *const i32,
+    x_len: usize,
+    y: *const i32,
+    y_len: usize,
+    _marks: *const i32,
+    _marks_len: usize,
+    buffer: *mut u8,
+    buffer_len: usize,
+    answer: *mut u64,
+    answer_len: usize,
+) -> u32 {
+    unsafe {
+        let lent = Lent::Shared(firm, std::slice::from_raw_parts(shared, shared_len));
+        write_lent(lent, fields, fields_len, x, x_len, y, y_len, buffer, buffer_len, answer, answer_len)
     }
 }
 
 #[allow(clippy::too_many_arguments)]
 unsafe fn read_lent(
-    own: Option<&[u8]>,
+    lent: Lent,
     record: *const u8,
     record_len: usize,
     fields: *mut i32,
@@ -596,7 +675,7 @@ unsafe fn read_lent(
     fields.fill(0);
     x.fill(0);
     y.fill(0);
-    let j = match load(own).and_then(|table| read(record, table)) {
+    let j = match load(lent).and_then(|table| read(record, table)) {
         Ok(j) => j,
         Err(r) => {
             answer.copy_from_slice(&[r[0], 0]);
@@ -639,7 +718,8 @@ pub unsafe extern "C" fn float_read(
 ) -> u32 {
     unsafe {
         read_lent(
-            None, record, record_len, fields, fields_len, x, x_len, y, y_len, marks, marks_len, answer, answer_len,
+            Lent::Nothing, record, record_len, fields, fields_len, x, x_len, y, y_len, marks, marks_len, answer,
+            answer_len,
         )
     }
 }
@@ -664,9 +744,37 @@ pub unsafe extern "C" fn float_read_with(
     answer_len: usize,
 ) -> u32 {
     unsafe {
-        let own = Some(std::slice::from_raw_parts(table, table_len));
+        let lent = Lent::Own(std::slice::from_raw_parts(table, table_len));
         read_lent(
-            own, record, record_len, fields, fields_len, x, x_len, y, y_len, marks, marks_len, answer, answer_len,
+            lent, record, record_len, fields, fields_len, x, x_len, y, y_len, marks, marks_len, answer, answer_len,
+        )
+    }
+}
+
+/// # Safety
+/// The slices are as include/negwishal.h says for negwishal_read_for.
+#[no_mangle]
+pub unsafe extern "C" fn float_read_for(
+    firm: u32,
+    shared: *const u8,
+    shared_len: usize,
+    record: *const u8,
+    record_len: usize,
+    fields: *mut i32,
+    fields_len: usize,
+    x: *mut i32,
+    x_len: usize,
+    y: *mut i32,
+    y_len: usize,
+    marks: *mut i32,
+    marks_len: usize,
+    answer: *mut u64,
+    answer_len: usize,
+) -> u32 {
+    unsafe {
+        let lent = Lent::Shared(firm, std::slice::from_raw_parts(shared, shared_len));
+        read_lent(
+            lent, record, record_len, fields, fields_len, x, x_len, y, y_len, marks, marks_len, answer, answer_len,
         )
     }
 }

@@ -1,5 +1,6 @@
-/* Judging a dowelled timber joint from C, and writing and reading its record, by the printed table of classes of wood or
- * by a firm's own; and finding whole square roots as judging finds them.
+/* Judging a dowelled timber joint from C, and writing and reading its record, by the printed table of classes of wood, by
+ * a firm's own, or by what a firm has of a table that two firms share; and finding whole square roots as judging finds
+ * them.
  *
  * The library is target/staticlib/libnegwishal.a, made by `scripts/library`.  docs/RECORD.md says how a record
  * is written and what each refusal means, docs/TABLE.md how a table is written.
@@ -66,7 +67,7 @@ enum {
     NEGWISHAL_OVERLOADED = 2 /* U is above 10,000 */
 };
 
-/* What negwishal_judge and negwishal_judge_with return. */
+/* What negwishal_judge returns, and its like with a table or for a firm. */
 enum {
     NEGWISHAL_JUDGED = 0,      /* the report stands in the slice */
     NEGWISHAL_SHORT_REPORT = 1 /* report_len is below NEGWISHAL_FIELDS: nothing was judged or written */
@@ -111,7 +112,7 @@ enum {
     NEGWISHAL_AT_FY = 26
 };
 
-/* What the two entries below, and their like with a table, answer, by the place in answer. */
+/* What the two entries below, and their like with a table or for a firm, answer, by the place in answer. */
 enum {
     NEGWISHAL_ANSWER_NUMBER = 0, /* number of the refusal; 0 if not refused */
     NEGWISHAL_ANSWER_LENGTH = 1, /* negwishal_write: bytes written; 0 if refused */
@@ -121,7 +122,7 @@ enum {
 /* How many numbers are needed: of fields, of each of x, y and marks where they are written to, of answer. */
 enum { NEGWISHAL_VALUES = 27, NEGWISHAL_POSITIONS = 64, NEGWISHAL_ANSWER = 2 };
 
-/* What negwishal_write and negwishal_read return, their like with a table, and the two entries for roots. */
+/* What negwishal_write and negwishal_read return, their like with a table or for a firm, and the two entries for roots. */
 enum {
     NEGWISHAL_DONE = 0,       /* the answer stands in answer */
     NEGWISHAL_SHORT_SLICE = 1 /* a slice has fewer numbers than are needed: nothing was done or written */
@@ -167,15 +168,18 @@ uint32_t negwishal_read(const uint8_t *record, size_t record_len, int32_t *field
  * A table of no bytes, length 0, is a 14, and its pointer is not null: for the printed table take the entries without
  * one. */
 
-/* What negwishal_load returns, and by what the entries with a table refuse before anything else. */
+/* What negwishal_load and negwishal_load_for return, and by what the entries with a table or for a firm refuse before
+ * anything else. */
 enum {
     NEGWISHAL_LOADED = 0,
-    NEGWISHAL_TABLE_LAYOUT = 14, /* the bytes are not laid out as a table is */
-    NEGWISHAL_TABLE_ENTRY = 15   /* they are, but an entry is outside its limits or its code not above the one before */
+    NEGWISHAL_TABLE_LAYOUT = 14, /* the bytes are not laid out as a table of the kind that the entry takes is */
+    NEGWISHAL_TABLE_ENTRY = 15,  /* they are, but an entry is outside its limits or its code not above the one before; of a
+                                    shared table an entry of the firm for which the call works */
+    NEGWISHAL_OTHER_FIRM = 16    /* the firm's number is neither 1 nor 2; only from the entries that take one */
 };
 
-/* Says whether the table_len bytes at table are a table, and writes nothing.  Not needed before the entries below: they
- * make the same tests themselves. */
+/* Says whether the table_len bytes at table are a firm's own table, and writes nothing.  Not needed before the entries
+ * below: they make the same tests themselves. */
 uint32_t negwishal_load(const uint8_t *table, size_t table_len);
 
 /* Judges by a table, else as negwishal_judge.  With one that does not load the report is a refusal by 14 or 15 that names
@@ -200,6 +204,35 @@ uint32_t negwishal_write_with(const uint8_t *table, size_t table_len, const int3
 uint32_t negwishal_read_with(const uint8_t *table, size_t table_len, const uint8_t *record, size_t record_len,
                              int32_t *fields, size_t fields_len, int32_t *x, size_t x_len, int32_t *y, size_t y_len,
                              int32_t *marks, size_t marks_len, uint64_t *answer, size_t answer_len);
+
+/* A table that two firms share: two stretches of entries, the first firm 1's and the second firm 2's.  The four entries
+ * below take the number of the firm for which a call works, and do by that firm's stretch what negwishal_load and the
+ * entries _with do by a table of its own with the same entries.  Whatever stands in the other firm's stretch, faulty
+ * entries too, changes nothing of what they return and write, as long as the first 10 bytes and the length of the shared
+ * table stay.  A record does not say for which firm it is meant, either.
+ *
+ * They refuse before anything else by 16, where firm is neither 1 nor 2: every number is looked at whole, and 257 is not
+ * 1; then by 14, for both firms alike; then by 15, for that firm's entries alone.  16 is answered as 14 and 15 are by the
+ * entries above: a report without a place, length 0 and the buffer left as it is, values that are 0.  A slice of fewer
+ * numbers than are needed is looked at first, as by them.  A table of a firm's own, with one pair, is a 14 here, and so are
+ * no bytes; a shared one is a 14 to the entries above. */
+
+/* Says whether the shared_len bytes at shared are a table for that firm, and writes nothing.  A 0 or a 15 says nothing of
+ * the other firm's entries; a 14 is one for both.  Not needed before the entries below. */
+uint32_t negwishal_load_for(uint32_t firm, const uint8_t *shared, size_t shared_len);
+
+/* Judges, writes and reads for a firm, else as negwishal_judge_with, negwishal_write_with and negwishal_read_with.  A record
+ * that was written for one firm may be a 7 for the other. */
+uint32_t negwishal_judge_for(uint32_t firm, const uint8_t *shared, size_t shared_len, const uint8_t *record,
+                             size_t record_len, uint64_t *report, size_t report_len);
+uint32_t negwishal_write_for(uint32_t firm, const uint8_t *shared, size_t shared_len, const int32_t *fields,
+                             size_t fields_len, const int32_t *x, size_t x_len, const int32_t *y, size_t y_len,
+                             const int32_t *marks, size_t marks_len, uint8_t *buffer, size_t buffer_len,
+                             uint64_t *answer, size_t answer_len);
+uint32_t negwishal_read_for(uint32_t firm, const uint8_t *shared, size_t shared_len, const uint8_t *record,
+                            size_t record_len, int32_t *fields, size_t fields_len, int32_t *x, size_t x_len,
+                            int32_t *y, size_t y_len, int32_t *marks, size_t marks_len, uint64_t *answer,
+                            size_t answer_len);
 
 /* Whole square roots: that of n is the greatest number whose square is not above n.  Judging finds all its square roots as
  * the two entries below do, and finds them itself: a caller need not call these before it.

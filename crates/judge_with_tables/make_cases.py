@@ -1,5 +1,6 @@
 #!/usr/bin/env python3
-"""Writes data/, args and stdout of this folder: tables and records, and the line of each pair.
+"""Writes data/, args and stdout of this folder: tables and records, and the lines of each pair: by the table as a firm's own, and for each of five firm
+numbers by it as one that two firms share.
 
 Refusals come from the reference engineer. Figures are worked out with exact integers, as judge_records/make_lines.py does, and are held to
 the engineer's brackets; the two that request A4 prints are compared with what it says.
@@ -15,11 +16,19 @@ import engineer  # noqa: E402
 import make_lines  # noqa: E402
 
 HARD, SOFT = 1, 0
+# the entries of two firms: codes rise within a stretch
+FIRMS = ((5, SOFT, 300), (9, HARD, 530)), ((1, SOFT, 350), (5, HARD, 900))
+FIRM_NUMBERS = (0, 1, 2, 3, 257)
 
 
 def table(*entries):
     stretch = b"".join(struct.pack("<BBH", *e) for e in entries)
     return struct.pack("<HHH", 1, 6, len(stretch)) + stretch
+
+
+def shared(first, second, after=b""):
+    one, two = (b"".join(struct.pack("<BBH", *e) for e in entries) for entries in (first, second))
+    return struct.pack("<HHHHH", 2, 10, len(one), 10 + len(one), len(two)) + one + two + after
 
 
 def wide(record, fx, fy):
@@ -32,8 +41,7 @@ def classes(record, first, second):
     return record[:22] + bytes([first]) + record[23:42] + bytes([second]) + record[43:]
 
 
-def line(table_bytes, record):
-    loaded = engineer.load(table_bytes)
+def line(loaded, record):
     number = 0 if engineer.did_load(loaded) else loaded
     refusal = engineer.parse(record, loaded)
     if isinstance(refusal, tuple):
@@ -55,7 +63,7 @@ def line(table_bytes, record):
         words = [read, 0], [number or (7 if whole else 2), 0], ""
     else:
         words = [0, record[66]], [0, len(record)], " same"
-    return ("loads %d, judged 0 %s, read 0 %s, written 0 %s%s"
+    return ("loads %d, judged 0 %s, short 1, read 0 %s, written 0 %s%s"
             % (number, " ".join(map(str, report)), " ".join(map(str, words[0])), " ".join(map(str, words[1])), words[2]))
 
 
@@ -78,6 +86,18 @@ def main():
         "trailing-byte": table((1, SOFT, 350)) + b"\0",
         "codes-equal": table((1, SOFT, 350), (1, SOFT, 380)),
         "density-1101": table((1, HARD, 1101)),
+        # class 5 is in both, with another density and kind; and each alone
+        "shared": shared(*FIRMS),
+        "firm-1-alone": table(*FIRMS[0]),
+        "firm-2-alone": table(*FIRMS[1]),
+        # faults of one firm's entries
+        "shared-firm-1-faulty": shared([(5, SOFT, 1101), (9, HARD, 530)], FIRMS[1]),
+        "shared-firm-2-faulty": shared(FIRMS[0], [(5, HARD, 900), (5, SOFT, 350)]),
+        "shared-both-faulty": shared([(0, SOFT, 350)], [(1, 2, 350)]),
+        # faults of the layout: firm 2's length 6; a byte more; the front alone
+        "shared-length-6": struct.pack("<HHHHH", 2, 10, 8, 18, 6) + shared(*FIRMS)[10:24],
+        "shared-trailing-byte": shared(*FIRMS, after=b"\0"),
+        "shared-front-alone": shared(*FIRMS)[:10],
     }
     records = {
         "b": b,
@@ -94,6 +114,9 @@ def main():
         "b-255-and-254": classes(across, 255, 254),
         "b-0": classes(b, 0, 1),
         "b-12": classes(b, 12, 1),
+        "b-5-across": classes(across, 5, 5),
+        "b-5-and-9": classes(b, 5, 9),
+        "b-1-and-5": classes(across, 1, 5),
         "own-class": example["own-class"],
         "dowels-599": example["dowels-599"],
         "nineteen-bytes": example["nineteen-bytes"],
@@ -124,8 +147,20 @@ def main():
         # a table that did not load, before every test of the record
         *((t, r) for t in ("no-bytes", "five-bytes", "trailing-byte", "codes-equal", "density-1101")
           for r in ("b", "nineteen-bytes", "no-force", "dowels-599", "no-bytes")),
+        # 02, A6: each firm's stretch, and the same entries alone; a class of the other firm is none
+        *((t, r) for r in ("b-5-across", "b-5-and-9", "b-1-and-5", "b", "b-9", "dowels-599", "no-force", "nineteen-bytes", "no-bytes")
+          for t in ("firm-1-alone", "firm-2-alone", "shared", "shared-firm-1-faulty", "shared-firm-2-faulty")),
+        *((t, r) for t in ("shared-both-faulty", "shared-length-6", "shared-trailing-byte", "shared-front-alone")
+          for r in ("b-5-across", "nineteen-bytes", "no-bytes")),
     ]
-    lines = {pair: line(tables[pair[0]], records[pair[1]]) for pair in pairs}
+    lines = {pair: line(engineer.load(tables[pair[0]]), records[pair[1]]) for pair in pairs}
+    for_firms = {(firm, *pair): line(engineer.load_for(firm, tables[pair[0]]), records[pair[1]]) for firm in FIRM_NUMBERS for pair in pairs}
+    # the same entries alone and shared, whatever the other firm's are
+    for _, record in filter(lambda pair: pair[0] == "shared", pairs):
+        for firm in (1, 2):
+            same = {for_firms[firm, t, record] for t in ("shared", "shared-firm-%d-faulty" % (3 - firm))} | {lines["firm-%d-alone" % firm, record]}
+            if len(same) != 1:
+                sys.exit("%s: firm %d: %s" % (record, firm, same))
     for kind, told in (("1-hardwood-900", ("11480", "11481")), ("1-softwood-900", ("9645", "9646"))):
         capacity = lines[kind, "b-across"].split(",")[1].split()[8]
         if capacity not in told:
@@ -140,7 +175,9 @@ def main():
             sys.exit("%s is not used" % name)
         (data / name).write_bytes(content)
     (HERE / "args").write_text("".join("%s\n%s\n" % pair for pair in pairs))
-    (HERE / "stdout").write_text("".join("%s %s: %s\n" % (*pair, text) for pair, text in lines.items()))
+    (HERE / "stdout").write_text("".join(
+        "%s %s: %s\n" % (*pair, text) + "".join("    firm %d: %s\n" % (firm, for_firms[(firm, *pair)]) for firm in FIRM_NUMBERS)
+        for pair, text in lines.items()))
 
 
 if __name__ == "__main__":

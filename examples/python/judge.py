@@ -1,7 +1,8 @@
 #!/usr/bin/env python3
-"""judge.py LIBRARY [--table TABLE] FILE..: prints the line for the record in each file.
+"""judge.py LIBRARY [--table TABLE | --shared TABLE --firm N] FILE..: prints the line for the record in each file.
 
-Classes are those of the printed table, or of the firm's table in the file TABLE. LIBRARY is a shared object with the archive in it:
+Classes are those of the printed table, of the firm's own table in the file TABLE, or those that firm N has in a table that two firms
+share. LIBRARY is a shared object with the archive in it:
 gcc -shared -o target/libnegwishal.so -Wl,--whole-archive target/staticlib/libnegwishal.a -Wl,--no-whole-archive
 """
 import ctypes
@@ -10,6 +11,7 @@ import os
 import sys
 
 MOST = 4096     # as the program does: more bytes are refusal 4
+FIRMS = 2**32   # a firm's number is below this; 1 and 2 are firms
 FIELDS = 8      # verdict, number, member, first, second, use, capacity, share
 WORDS = ("refused", "fits", "overloaded")
 LENT = (ctypes.c_char_p, ctypes.c_size_t)
@@ -23,14 +25,22 @@ def entry(path, name, *arguments):
     return found
 
 
-def load(path, table=None):
-    """The entry that judges, by the printed table or by the bytes of a firm's; ValueError where these are no table."""
+def load(path, table=None, firm=None):
+    """The entry that judges, by the printed table, by the bytes of a firm's own, or by what a firm has of those of a shared one;
+    ValueError where the table does not load."""
     if table is None:
         return entry(path, "negwishal_judge", *LENT, *REPORT)
-    number = entry(path, "negwishal_load", *LENT)(table, len(table))
+    if firm is None:
+        loads, judges, types, handed = "negwishal_load", "negwishal_judge_with", LENT, (table, len(table))
+    else:
+        if not 0 <= firm < FIRMS:       # ctypes would cut it to 32 bits
+            raise OverflowError("%d: no number below 2^32" % firm)
+        loads, judges = "negwishal_load_for", "negwishal_judge_for"
+        types, handed = (ctypes.c_uint32, *LENT), (firm, table, len(table))
+    number = entry(path, loads, *types)(*handed)
     if number != 0:
         raise ValueError("refused %d 0 0 0" % number)
-    return functools.partial(entry(path, "negwishal_judge_with", *LENT, *LENT, *REPORT), table, len(table))
+    return functools.partial(entry(path, judges, *types, *LENT, *REPORT), *handed)
 
 
 def line(judge, record):
@@ -49,11 +59,13 @@ def content(name):
 
 
 def main(library, *names):
-    table = None
-    if names[:1] == ("--table",):
+    table = firm = None
+    if names[0] == "--table":
         table, names = content(names[1]), names[2:]
+    elif names[0] == "--shared":
+        table, firm, names = content(names[1]), int(names[3]), names[4:]
     try:
-        judge = load(library, table)
+        judge = load(library, table, firm)
     except ValueError as refusal:       # the same for every record
         for _ in names:
             print(refusal)
@@ -62,7 +74,18 @@ def main(library, *names):
         print(line(judge, content(name)))
 
 
+def is_called_rightly(words):
+    if words[1:2] == ["--table"]:
+        return len(words) > 3
+    if words[1:2] == ["--shared"]:
+        return len(words) > 5 and words[3] == "--firm"
+    return len(words) > 1
+
+
 if __name__ == "__main__":
-    if len(sys.argv) < 3 or sys.argv[2] == "--table" and len(sys.argv) < 5:
+    if not is_called_rightly(sys.argv[1:]):
         sys.exit(__doc__.splitlines()[0])
-    main(*sys.argv[1:])
+    try:
+        main(*sys.argv[1:])
+    except (ValueError, OverflowError) as fault:        # N
+        sys.exit(str(fault))

@@ -1,10 +1,11 @@
-"""The engineer: an exact reference for document 01 with requests A1 to A5 of 02, written from these documents alone.
+"""The engineer: an exact reference for document 01 with requests A1 to A6 of 02, written from these documents alone.
 
 Whole numbers and fractions only.  Reference(record) settles the refusal or the
 exact quantities once; its check(line) says whether an output line is right.
 after_write and after_read say what the C entries that write and read leave behind.
-load(table) says what a firm's table holds.  All others take what it gives, `loaded`:
-the table, or the refusal of one that did not load; without it the printed table.
+load(table) says what a firm's table holds, load_for(firm, shared) what a firm's stretch of
+a shared one does.  All others take what these give, `loaded`: the table, or the refusal of
+one that did not load; without it the printed table.
 check_bracket and check_root say whether what the C entries for whole roots answer is right.
 """
 from fractions import Fraction
@@ -36,6 +37,20 @@ def _i32(b, at):
 
 # ----------------------------------------------------------------- the table
 
+def _entries(stretch):
+    """The classes of a stretch of entries, or 15."""
+    loaded, before = {}, None
+    for at in range(0, len(stretch), 4):
+        code, kind, density = stretch[at], stretch[at + 1], _u16(stretch, at + 2)
+        if code < 1 or kind not in (0, 1) or not 290 <= density <= 1100:
+            return 15
+        if before is not None and code <= before:
+            return 15
+        loaded[code] = (HARDWOOD if kind == 1 else SOFTWOOD, density)
+        before = code
+    return loaded
+
+
 def load(table):
     """What a firm's table says (02, A4): class: kind and density, as PRINTED has them; or the refusal 14 or 15."""
     if len(table) < 6:
@@ -47,16 +62,25 @@ def load(table):
         return 14
     if length == 0 or length % 4 != 0:
         return 14
-    loaded, before = {}, None
-    for at in range(offset, offset + length, 4):
-        code, kind, density = table[at], table[at + 1], _u16(table, at + 2)
-        if code < 1 or kind not in (0, 1) or not 290 <= density <= 1100:
-            return 15
-        if before is not None and code <= before:
-            return 15
-        loaded[code] = (HARDWOOD if kind == 1 else SOFTWOOD, density)
-        before = code
-    return loaded
+    return _entries(table[offset:])
+
+
+def load_for(firm, shared):
+    """What a shared table says for a firm (02, A6): as load; or the refusal 14, 15 or 16."""
+    if firm not in (1, 2):
+        return 16
+    if len(shared) < 10 or _u16(shared, 0) != 2:
+        return 14
+    end, stretches = 10, []
+    for at in (2, 6):
+        offset, length = _u16(shared, at), _u16(shared, at + 2)
+        if offset != end or length == 0 or length % 4 != 0:
+            return 14
+        end = offset + length
+        stretches.append(shared[offset:end])
+    if end != len(shared):
+        return 14
+    return _entries(stretches[firm - 1])
 
 
 def did_load(loaded):

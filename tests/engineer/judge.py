@@ -6,35 +6,43 @@ read(record, fields, x, y, marks, answer) -> (code, fields, x, y, marks, answer)
 what is lent and what stands there afterwards; or a str that says what went wrong.
 
 Those with `tables` have load(table) -> number, and the other three with table=bytes
-call the entry that takes a table.
+call the entry that takes a table.  Those with `firms` take a Shared for the bytes too,
+and then call the entry for firms.
 
 Those with `roots` have bracket(n, answer) and root(n, answer) -> (code, answer).
 """
 from array import array
+from collections import namedtuple
 import ctypes
 import shlex
 import subprocess
 
 import model
 
+# What a call for a firm hands in: the firm's number and the bytes of a shared table
+Shared = namedtuple("Shared", "firm bytes")
+
 
 class StandIn:
     """model.py (or a wrong program) in this process."""
     program = True              # has the program's rule of 4,096 bytes
-    writes = tables = roots = True
+    writes = tables = firms = roots = True
 
     def __init__(self, cls=model.Model):
         self.cls = cls
 
     def made(self, table):
         one = self.cls()
-        if table is not None:
+        if isinstance(table, Shared):
+            one.firm, one.handed = table
+        elif table is not None:
             one.handed = table
         return one
 
     def load(self, table):
+        one = self.made(table)
         try:
-            return self.cls().load(table)
+            return one.load(one.handed)
         except Exception as fault:          # a crash is an answer too, a wrong one
             return "crashed: %s: %s" % (type(fault).__name__, fault)
 
@@ -84,7 +92,7 @@ class StandIn:
 class Command:
     """A program that gets one record on standard input and prints one line."""
     program = True
-    writes = tables = roots = False
+    writes = tables = firms = roots = False
 
     def __init__(self, command):
         self.command = shlex.split(command)
@@ -175,6 +183,7 @@ class Library:
     VERDICTS = ("refused", "fits", "overloaded")
     FIGURES = ("use", "capacity", "share")
     MARK = 0xA5A5A5A5A5A5A5A5
+    ABOVE = 0xA5A5A5A5 << 32     # what a caller may leave above the 32 bits of a firm's number
 
     def __init__(self, path, entry="negwishal_judge"):
         library = ctypes.CDLL(path)
@@ -184,22 +193,30 @@ class Library:
                               ctypes.POINTER(ctypes.c_uint64), ctypes.c_size_t)
         self.writes = hasattr(library, "negwishal_write")
         self.tables = self.writes and hasattr(library, "negwishal_load")
+        self.firms = self.tables and hasattr(library, "negwishal_load_for")
         self.roots = hasattr(library, "negwishal_root_bracket")
         self.arena, self.entries = Arena(), {}
         for has, names in ((self.writes, (("write", 6), ("read", 6))),
                            (self.tables, (("load", 1), ("judge_with", 3), ("write_with", 7), ("read_with", 7))),
+                           (self.firms, (("load_for", 1, 1), ("judge_for", 3, 1), ("write_for", 7, 1), ("read_for", 7, 1))),
                            (self.roots, (("root_bracket", 1, 1), ("whole_root", 1, 1)))):
             for name, *lent in names if has else ():
                 self.entries[name] = entry_of(library, "negwishal_" + name, *lent)
+        if self.tables:
+            self.entries["load_with"] = self.entries["load"]    # as the others that take a table
 
     def lend(self, name, table, blocks, written):
-        """Calls the entry, the one that takes a table where there is one; written: numbers of the blocks written to."""
+        """Calls the entry, the one that takes a table or that for firms where there is one; written: numbers of the blocks
+        written to."""
         if table is None:
             return self.arena.call(self.entries[name], blocks, written)
-        return self.arena.call(self.entries[name + "_with"], [(table, BYTES), *blocks], [k + 1 for k in written])
+        entry, firm = name + "_with", ()
+        if isinstance(table, Shared):
+            entry, firm, table = name + "_for", (table.firm | self.ABOVE,), table.bytes
+        return self.arena.call(self.entries[entry], [(table, BYTES), *blocks], [k + 1 for k in written], firm)
 
     def load(self, table):
-        got = self.arena.call(self.entries["load"], [(table, BYTES)], ())
+        got = self.lend("load", table, [], ())
         return got if isinstance(got, str) else got[0]
 
     def write(self, fields, x, y, marks, buffer, answer, table=None):
@@ -240,7 +257,8 @@ class Library:
 
     def judge_with(self, table, data):
         count = len(self.FIELDS)
-        short = [self.MARK] * ((len(table) + len(data)) % count)
+        size = table.firm + len(table.bytes) if isinstance(table, Shared) else len(table)
+        short = [self.MARK] * ((size + len(data)) % count)
         # a report that is too short: nothing is judged or written
         got = self.lend("judge", table, [(data, BYTES), u64s(short)], (1,))
         if isinstance(got, str) or got[0] != 1 or got[1] != u64s(short)[0]:

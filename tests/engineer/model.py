@@ -1,6 +1,7 @@
 """A stand-in program: one record on standard input, one line on standard output.
 write, read_values, load, bracket and root stand in for the library's C entries; with a
-table in `handed` judge, write and read_values stand in for those that take one.
+table in `handed` judge, write and read_values stand in for those that take one, and with
+a firm's number in `firm` too they and load for those that take a shared one.
 
 Whole numbers only.  It shares nothing with engineer.py and finds its figures by
 whole roots, where the engineer tests powers.  The small methods are there so that
@@ -84,13 +85,13 @@ class Model:
 
     handed = None           # its bytes; none in a call that takes no table
     table = None            # what was loaded: code, then kind and density
-    table_tests = ("test_layout", "test_entries")
+    table_tests = ("test_firm", "test_layout", "test_entries")
     table_order = "little"
     before_first = 0        # the first code is above it
     densities = (290, 1100)
 
     def load(self, table):
-        """0, 14 or 15"""
+        """0, 14, 15 or 16"""
         self.handed = table
         try:
             self.test_table()
@@ -112,6 +113,9 @@ class Model:
         return int.from_bytes(self.handed[at:at + 2], self.table_order)
 
     def test_layout(self):
+        if self.firm is not None:
+            self.test_shared()
+            return
         size = len(self.handed)
         if self.small(size):
             raise Refused(14)
@@ -139,7 +143,9 @@ class Model:
         return length % 4 != 0
 
     def stretch(self):
-        """the bytes that the pair names, as far as there are any"""
+        """the bytes that the pair names, the firm's where there are two, as far as there are any"""
+        if self.firm is not None:
+            return self.stretch_of(self.firm)
         offset = self.table_u16(2)
         return self.handed[offset:offset + self.table_u16(4)]
 
@@ -192,6 +198,60 @@ class Model:
     def density_of(self, m):
         c = self.cls[m]
         return self.density[c] if self.table is None else self.look_up(c)[1]
+
+    # ---- a table that two firms share (02, A6)
+
+    firm = None             # the firm's number; none in a call that takes no firm
+
+    def test_firm(self):
+        if self.firm is not None and self.other_firm(self.firm):
+            raise Refused(16)
+
+    def other_firm(self, firm):
+        return firm not in (1, 2)
+
+    def test_shared(self):
+        size = len(self.handed)
+        if self.pairs_cut(size) or self.not_two(self.table_u16(0)):
+            raise Refused(14)
+        end = self.first_at()
+        for firm in (1, 2):
+            offset, length = self.named_by(firm)
+            if self.apart(firm, offset, end) or self.unfit(firm, length):
+                raise Refused(14)
+            end = self.add_up(firm, offset, length)
+        if self.end_missed(end, size):
+            raise Refused(14)
+
+    def pairs_cut(self, size):
+        return size < 10
+
+    def not_two(self, count):
+        return count != 2
+
+    def first_at(self):
+        return 10
+
+    def named_by(self, firm):
+        """offset and length of a firm's stretch"""
+        return self.table_u16(4 * firm - 2), self.table_u16(4 * firm)
+
+    def apart(self, firm, offset, end):
+        """end: where the stretch before ends"""
+        return offset != end
+
+    def unfit(self, firm, length):
+        return length == 0 or length % 4 != 0
+
+    def add_up(self, firm, offset, length):
+        return offset + length
+
+    def end_missed(self, end, size):
+        return end != size
+
+    def stretch_of(self, firm):
+        offset, length = self.named_by(firm)
+        return self.handed[offset:offset + length]
 
     # ---- reading
 

@@ -5,8 +5,9 @@
   run.py --library path.so [--entry name]        a library through its C entries
   run.py --wrong [--count N]                     the wrong programs: each must be reported
 A library is handed N records to judge, to read and to write again, and N sets of values to write and to read; then
-N of each with tables of firms; and N numbers, to find the starting bracket and the whole root of each.
-  run.py --show K [--seed S] [--tables]          record number K, in hex, and what 01 says of it; or that with its table
+N of each with tables of firms, and N of each with tables that two firms share; and N numbers, to find the starting bracket
+and the whole root of each.
+  run.py --show K [--seed S] [--tables|--firms]  record number K, in hex, and what 01 says of it; or that with its table
 Exit status 0 if all is right.
 """
 import argparse
@@ -14,13 +15,14 @@ from collections import Counter
 import time
 
 import engineer
+import firms
 import judge
 import records
 import roots
 import tables
 import values
-from written import check_line, check_load, check_read, check_roots, check_write
-from wrong import WRONG, WRONG_ROOTS, WRONG_TABLES, WRONG_WRITERS
+from written import check_alike, check_line, check_load, check_read, check_roots, check_write
+from wrong import WRONG, WRONG_FIRMS, WRONG_ROOTS, WRONG_TABLES, WRONG_WRITERS
 
 
 def outcome(line):
@@ -47,33 +49,49 @@ def answered(code, number):
 
 def loaded_of(table):
     """What the engineer has of a table, the printed one where none is handed in."""
+    if isinstance(table, judge.Shared):
+        return engineer.load_for(*table)
     return engineer.PRINTED if table is None else engineer.load(table)
 
 
-def run_written(program, seed, count, most, skip=0, tabled=False):
-    """Values through the writer, each record back through the reader; or this with tables."""
+def first_fault(*checks):
+    """True, or what the first check finds that does not pass."""
+    found = True
+    for check in checks:
+        found = check() if found is True else found
+    return found
+
+
+def run_written(program, seed, count, most, skip=0, source=None):
+    """Values through the writer, each record back through the reader; or this with the tables of a source."""
     outcomes, violations = Counter(), 0
     began = time.time()
-    items = tables.value_stream(seed, count) if tabled else ((x, None, y) for x, y in values.stream(seed, count))
+    items = source.value_stream(seed, count) if source else ((x, None, y) for x, y in values.stream(seed, count))
     for n, (label, table, handed) in enumerate(items):
         if n < skip:
             continue
         loaded = loaded_of(table)
         expected = engineer.after_write(*handed, loaded)
         outcomes[answered(expected[0], expected[0] or expected[2][0])] += 1
-        found = check_write(program, handed, expected, table, loaded)
-        if found is True and tabled:
-            found = check_load(program, table, loaded)
+        others = firms.others(seed, n, table, loaded)
+        found = first_fault(lambda: written_alike(program, handed, expected, table, loaded, others),
+                            lambda: table is None or loaded_alike(program, table, loaded, others))
         if found is not True:
             violations += 1
             if violations <= most:
                 print("values %d (%s): %s\n  %r%s" % (n, label, found, handed, with_table(table)))
-    summary("sets of values written" + tabled * " with tables", seed, violations, began, outcomes)
+    summary("sets of values written" + WITH.get(source, ""), seed, violations, began, outcomes)
     return violations
 
 
+WITH = {tables: " with tables", firms: " for firms"}
+
+
 def with_table(table):
-    return "" if table is None else "\n  with table " + (table[:1100].hex() or "of no bytes")
+    if table is None:
+        return ""
+    firm, data = table if isinstance(table, judge.Shared) else (None, table)
+    return "\n  with %s %s" % ("table" if firm is None else "firm %d, shared table" % firm, data[:1100].hex() or "of no bytes")
 
 
 def run_read(program, seed, count, most, skip=0):
@@ -117,30 +135,32 @@ def counts(counter):
     return ", ".join("%s %d" % x for x in sorted(counter.items()))
 
 
-def run_tables(program, seed, count, most, skip=0):
+def run_tables(program, seed, count, most, skip=0, source=tables):
     """Tables through the loader; records with them through the judge, the reader and again through all entries."""
     outcomes, loads, kinds, read, violations = Counter(), Counter(), Counter(), Counter(), 0
     began = time.time()
-    for n, (label, table, data) in enumerate(tables.stream(seed, count)):
+    for n, (label, table, data) in enumerate(source.stream(seed, count)):
         if n < skip:
             continue
-        loaded = engineer.load(table)
+        loaded = loaded_of(table)
         reference = engineer.Reference(data, program.program, loaded)
         lent = values.lent(seed, n)
         expected = engineer.after_read(data, *lent, loaded)
+        others = firms.others(seed, n, table, loaded)
         line, found = check_line(program, data, reference, table)
         outcomes[outcome(line)] += 1
         loads["loaded" if engineer.did_load(loaded) else "refused %d" % loaded] += 1
         kinds[label.split(",")[0]] += 1
         read[answered(expected[0], expected[0] or expected[-1][0])] += 1
-        for check in (lambda: check_load(program, table, loaded),
-                      lambda: check_read(program, data, lent, line, expected, table, loaded)):
-            found = check() if found is True else found
+        found = first_fault(lambda: found,
+                            lambda: check_alike(lambda by: program.judge(data, by), table, others),
+                            lambda: loaded_alike(program, table, loaded, others),
+                            lambda: read_alike(program, data, lent, expected, table, loaded, others, line))
         if found is not True:
             violations += 1
             if violations <= most:
                 print("record %d (%s): %s\n  %s%s" % (n, label, found, data[:4200].hex(), with_table(table)))
-    summary("records judged with tables, read and written again", seed, violations, began, outcomes)
+    summary("records judged%s, read and written again" % WITH[source], seed, violations, began, outcomes)
     print("  tables: " + counts(loads))
     print("  read: " + counts(read))
     print("  kinds: " + counts(kinds))
@@ -219,23 +239,25 @@ def run_wrong(seed, count, only):
     return missed
 
 
-def run_wrong_tables(seed, count, only):
+def run_wrong_tables(seed, count, only, source=tables, programs=WRONG_TABLES):
     """Each wrong program by the entry that is wrong in it, until its first violation."""
     kept = {"loading": [], "judging": [], "reading": [], "writing": []}
-    for n, (label, table, data) in enumerate(tables.stream(seed, count)):
-        loaded = engineer.load(table)
+    for n, (label, table, data) in enumerate(source.stream(seed, count)):
+        loaded = loaded_of(table)
         lent = values.lent(seed, n)
-        kept["loading"].append((n, label, check_load, (table, loaded)))
-        kept["judging"].append((n, label, judged_only, (data, engineer.Reference(data, True, loaded), table)))
+        others = firms.others(seed, n, table, loaded)
+        kept["loading"].append((n, label, loaded_alike, (table, loaded, others)))
+        kept["judging"].append((n, label, judged_alike, (data, engineer.Reference(data, True, loaded), table, others)))
         expected = engineer.after_read(data, *lent, loaded)
-        kept["reading"].append((n, label, check_read, (data, lent, None, expected, table, loaded)))
-    for n, (label, table, handed) in enumerate(tables.value_stream(seed, count)):
-        loaded = engineer.load(table)
+        kept["reading"].append((n, label, read_alike, (data, lent, expected, table, loaded, others)))
+    for n, (label, table, handed) in enumerate(source.value_stream(seed, count)):
+        loaded = loaded_of(table)
         expected = engineer.after_write(*handed, loaded)
-        kept["writing"].append((n, label, check_write, (handed, expected, table, loaded)))
+        others = firms.others(seed, n, table, loaded)
+        kept["writing"].append((n, label, written_alike, (handed, expected, table, loaded, others)))
     missed = tried = 0
-    print("%-16s %-58s %8s  %s" % ("entry", "wrong program with tables", "item", "why"))
-    for entry, name, cls in WRONG_TABLES:
+    print("%-16s %-58s %8s  %s" % ("entry", "wrong program" + WITH[source], "item", "why"))
+    for entry, name, cls in programs:
         if only and only not in name:
             continue
         tried += 1
@@ -244,7 +266,7 @@ def run_wrong_tables(seed, count, only):
         missed += found is None
         print("%-16s %-58s %8s" % (entry, name, "MISSED") if found is None
               else "%-16s %-58s %8d  (%s) %s" % (entry, name, *found[1:]))
-    print("%d wrong programs with tables, %d missed, %d sets of values and records, seed %d" % (tried, missed, count, seed))
+    print("%d wrong programs%s, %d missed, %d sets of values and records, seed %d" % (tried, WITH[source], missed, count, seed))
     return missed
 
 
@@ -266,12 +288,30 @@ def run_wrong_roots(seed, count, only):
     return missed
 
 
-def judged_only(program, data, reference, table):
-    return check_line(program, data, reference, table)[1]
+# An entry's answer by a table, and by the others that must give the same
+
+def loaded_alike(program, table, loaded, others):
+    return first_fault(lambda: check_load(program, table, loaded), lambda: check_alike(program.load, table, others))
+
+
+def judged_alike(program, data, reference, table, others):
+    return first_fault(lambda: check_line(program, data, reference, table)[1],
+                       lambda: check_alike(lambda by: program.judge(data, by), table, others))
+
+
+def read_alike(program, data, lent, expected, table, loaded, others, line=None):
+    return first_fault(lambda: check_read(program, data, lent, line, expected, table, loaded),
+                       lambda: check_alike(lambda by: program.read(data, *lent, table=by), table, others))
+
+
+def written_alike(program, handed, expected, table, loaded, others):
+    return first_fault(lambda: check_write(program, handed, expected, table, loaded),
+                       lambda: check_alike(lambda by: program.write(*handed, table=by), table, others))
 
 
 def run_all(program, a):
-    """The violations of judging and, where the program has them, of writing and reading, of all with tables and of roots."""
+    """The violations of judging and, where the program has them, of writing and reading, of all with tables, of all for
+    firms and of roots."""
     count = a.count or 20000
     violations = run(program, a.seed, count, a.most, a.skip)
     if program.writes:
@@ -282,10 +322,16 @@ def run_all(program, a):
         print("the library has no negwishal_write")
     if program.tables:
         violations += run_tables(program, a.seed, count, a.most, a.skip)
-        violations += run_written(program, a.seed, count, a.most, a.skip, tabled=True)
+        violations += run_written(program, a.seed, count, a.most, a.skip, tables)
     elif a.library:
         violations += 1
         print("the library has no negwishal_load")
+    if program.firms:
+        violations += run_tables(program, a.seed, count, a.most, a.skip, firms)
+        violations += run_written(program, a.seed, count, a.most, a.skip, firms)
+    elif a.library:
+        violations += 1
+        print("the library has no negwishal_load_for")
     if program.roots:
         violations += run_roots(program, a.seed, count, a.most, a.skip)
     elif a.library:
@@ -294,12 +340,14 @@ def run_all(program, a):
     return violations
 
 
-def show_table(seed, number):
-    for n, (label, table, data) in enumerate(tables.stream(seed, number + 1)):
+def show_table(seed, number, source):
+    for n, (label, table, data) in enumerate(source.stream(seed, number + 1)):
         if n == number:
-            loaded = engineer.load(table)
+            loaded = loaded_of(table)
             print(label)
-            print("table: " + table.hex())
+            if source is firms:
+                print("firm: %d" % table.firm)
+            print("table: " + (table.bytes if source is firms else table).hex())
             print("loads: %s" % (loaded if engineer.did_load(loaded) else "refused %d" % loaded))
             print("record: " + data.hex())
             print("library: " + engineer.Reference(data, False, loaded).describe())
@@ -326,15 +374,20 @@ def main():
     p.add_argument("--only", help="with --wrong: names that contain this")
     p.add_argument("--show", type=int)
     p.add_argument("--tables", action="store_true", help="with --show: a record with a table")
+    p.add_argument("--firms", action="store_true", help="with --show: a record with a table that two firms share")
     p.add_argument("--most", type=int, default=50, help="violations printed in full")
     a = p.parse_args()
     if a.show is not None:
-        (show_table if a.tables else show)(a.seed, a.show)
+        if a.tables or a.firms:
+            show_table(a.seed, a.show, firms if a.firms else tables)
+        else:
+            show(a.seed, a.show)
         return 0
     if a.wrong:
         missed = run_wrong(a.seed, a.count or 25000, a.only)
         missed += run_wrong_writers(a.seed, a.count or 8000, a.only)
         missed += run_wrong_tables(a.seed, a.count or 5000, a.only)
+        missed += run_wrong_tables(a.seed, a.count or 10000, a.only, firms, WRONG_FIRMS)
         missed += run_wrong_roots(a.seed, a.count or 5000, a.only)
         return 1 if missed else 0
     if a.library:

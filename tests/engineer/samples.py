@@ -1,12 +1,14 @@
-"""Writes the samples of records.py, the line of each, a firm's table, the lines by it, those of roots and of thicknesses into a folder.
+"""Writes the samples of records.py, the line of each, a firm's table, the lines by it, a table that two firms share, the lines by
+firm 2's part of it, those of roots and of thicknesses into a folder.
 
-  samples.py FOLDER           writes *.rec, lines.txt, *.tab, own-table-lines.txt, root-lines.txt and thickness-lines.txt
+  samples.py FOLDER           writes *.rec, *.tab, lines.txt and *-lines.txt
   samples.py --check FOLDER   compares them with what it would write
 """
 import os
 import sys
 
 import engineer
+import firms
 import records
 import tables
 
@@ -18,6 +20,11 @@ HEAD = """\
 OWN_HEAD = """\
 # The line that each record gives by the table in own-table.tab, as lines.txt has those by the
 # printed table.  Of the printed classes it has 1 and 9, and no more.
+"""
+
+SHARED_HEAD = """\
+# The line that each record gives by what firm 2 has of the table in shared-table.tab: classes 1 and
+# 200, and no more.  Firm 1 has the classes of own-table.tab, and the lines of own-table-lines.txt.
 """
 
 ROOT_HEAD = """\
@@ -33,7 +40,10 @@ THICKNESS_HEAD = """\
 THICKNESSES = ("joint-b", "t1-200", "pair-504", "force-27000", "out-of-line", "dowels-599", "no-force")
 
 # the sawmill of examples/write_own_table.py
-OWN = tables.assemble([(1, tables.SOFT, 372), (9, tables.HARD, 580), (200, tables.HARD, 660)])
+SAWMILL = [(1, tables.SOFT, 372), (9, tables.HARD, 580), (200, tables.HARD, 660)]
+OWN = tables.assemble(SAWMILL)
+# firm 1 the sawmill: examples/write_shared_table.py
+SHARED = firms.assemble(firms.stretch(SAWMILL), firms.stretch([(1, tables.SOFT, 350), (200, tables.SOFT, 440)]))
 
 
 def lines(head, loaded):
@@ -65,7 +75,10 @@ def files():
     yield "lines.txt", lines(HEAD, engineer.PRINTED)
     yield "own-table.tab", OWN
     yield "printed-table.tab", tables.PRINTED
+    yield "shared-table.tab", SHARED
+    assert engineer.load_for(1, SHARED) == engineer.load(OWN)
     yield "own-table-lines.txt", lines(OWN_HEAD, engineer.load(OWN))
+    yield "shared-table-lines.txt", lines(SHARED_HEAD, engineer.load_for(2, SHARED))
     least = [thickness_line(name, data) for name, data, _ in records.samples() if name in THICKNESSES]
     yield "thickness-lines.txt", (THICKNESS_HEAD + "".join(least)).encode()
     yield "root-lines.txt", (ROOT_HEAD + "".join(engineer.root_line(n) + "\n" for n in ROOTS)).encode()

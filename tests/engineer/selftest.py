@@ -1,6 +1,6 @@
 """Tests of the engineer itself: against the figures that document 01 prints, a joint of D30, joints out of line and
 graded ones worked out by the formulas, and against their sentences taken literally with fractions, A3's with all sets
-of dowels; of its writer, its tables and its roots against 02's sentences on A2, A4 and A5.
+of dowels; of its writer, its tables, its firms and its roots against 02's sentences on A2, A4, A6 and A5.
 
   selftest.py [--count N] [--seed S]     with N records made by chance
 """
@@ -12,6 +12,7 @@ from random import Random
 import struct
 
 import engineer
+import firms
 import judge
 import records
 import roots
@@ -227,18 +228,118 @@ def graded():
         assert engineer.after_read(b, fields, x, y, [1] * 63, [5, 6], number) == (1, fields, x, y, [1] * 63, [5, 6])
 
 
+def entry_tests(entries):
+    """02's A4 on entries, (code, kind, density)."""
+    return ((15, not all(code >= 1 and kind in (0, 1) and 290 <= density <= 1100 for code, kind, density in entries)),
+            (15, any(b[0] <= a[0] for a, b in zip(entries, entries[1:]))))
+
+
+def unpacked(data, start, end):
+    return [struct.unpack_from("<BBH", data, at) for at in range(start, min(end, len(data)) - 3, 4)]
+
+
+def first_number(tests):
+    return next((number for number, holds in tests if holds), 0)
+
+
 def load_fault(table):
     """02's A4 sentence by sentence: the number, and the entries."""
+    if isinstance(table, judge.Shared):
+        return firm_fault(*table)
     if len(table) < 6:
         return 14, []
     count, offset, length = struct.unpack_from("<HHH", table)
-    entries = [struct.unpack_from("<BBH", table, at) for at in range(6, len(table) - 3, 4)]
-    tests = (
+    entries = unpacked(table, 6, len(table))
+    return first_number((
         (14, count != 1), (14, offset != 6), (14, offset + length != len(table)), (14, length == 0), (14, length % 4 != 0),
-        (15, not all(code >= 1 and kind in (0, 1) and 290 <= density <= 1100 for code, kind, density in entries)),
-        (15, any(b[0] <= a[0] for a, b in zip(entries, entries[1:]))),
-    )
-    return next((number for number, holds in tests if holds), 0), entries
+        *entry_tests(entries))), entries
+
+
+def firm_fault(firm, shared):
+    """02's A6 sentence by sentence: the number, and the firm's entries."""
+    if firm != 1 and firm != 2:
+        return 16, []
+    if len(shared) < 10:
+        return 14, []
+    count, first, one, second, two = struct.unpack_from("<HHHHH", shared)
+    entries = unpacked(shared, 10, 10 + one) if firm == 1 else unpacked(shared, 10 + one, 10 + one + two)
+    return first_number((
+        (14, count != 2), (14, first != 10), (14, second != 10 + one), (14, 10 + one + two != len(shared)),
+        (14, one == 0 or two == 0), (14, one % 4 != 0 or two % 4 != 0), *entry_tests(entries))), entries
+
+
+# a shared table in hexadecimal, and the number for firm 1 and for firm 2; by hand
+SHARED = (
+    ("0200 0a00 0400 0e00 0400 0100 5e01 0101 8403", 0, 0), ("0200 0a00 0800 1200 0400 0100 2201 ff01 4c04 0100 5e01", 0, 0),
+    ("0200 0a00 0400 0e00 0800 ff00 2201 0101 4c04 0200 5e01", 0, 0), ("0200 0a00 0400 0e00 0400 0000 5e01 0101 8403", 15, 0),
+    ("0200 0a00 0400 0e00 0400 0100 5e01 0102 8403", 0, 15), ("0200 0a00 0400 0e00 0400 0100 2101 0101 4d04", 15, 15),
+    ("0200 0a00 0400 0e00 0800 0900 5e01 0900 5e01 0900 5e01", 0, 15),
+    ("0200 0a00 0800 1200 0400 0900 5e01 0100 5e01 0200 5e01", 15, 0), ("", 14, 14), ("0200 0a00 0400 0e00 04", 14, 14),
+    ("0200 0a00 0000 0a00 0000", 14, 14), ("0200 0a00 0400 0e00 0000 0100 5e01", 14, 14),
+    ("0200 0a00 0000 0a00 0400 0100 5e01", 14, 14), ("0100 0a00 0400 0e00 0400 0100 5e01 0101 8403", 14, 14),
+    ("0300 0a00 0400 0e00 0400 0100 5e01 0101 8403", 14, 14), ("0002 000a 0004 000e 0004 0100 5e01 0101 8403", 14, 14),
+    ("0200 0600 0400 0e00 0400 0100 5e01 0101 8403", 14, 14), ("0200 0600 0800 0e00 0400 0100 5e01 0101 8403", 14, 14),
+    ("0200 0a00 0400 0f00 0400 0100 5e01 00 0101 8403", 14, 14), ("0200 0a00 0800 0e00 0400 0100 5e01 0201 8403", 14, 14),
+    ("0200 0b00 0400 0f00 0400 00 0100 5e01 0101 8403", 14, 14), ("0200 0e00 0400 0a00 0400 0100 5e01 0101 8403", 14, 14),
+    ("0200 0a00 0400 0a00 0400 0100 5e01", 14, 14), ("0200 0a00 0400 0e00 0300 0100 5e01 0101 84", 14, 14),
+    ("0200 0a00 0500 0f00 0400 0100 5e01 00 0101 8403", 14, 14),
+    ("0200 0a00 0600 1000 0600 0100 5e01 0200 0101 8403 0201", 14, 14),
+    ("0200 0a00 0400 0e00 0400 0100 5e01 0101 8403 00", 14, 14), ("0200 0a00 0400 0e00 0400 0100 5e01 0101 84", 14, 14),
+    ("0200 0a00 0400 0e00 0400 0102 5e01 0102 8403 00", 14, 14), ("0100 0600 0400 0100 5e01", 14, 14),
+    ("0200 0a00 fcff 0600 0c00 0100 5e01 0101 8403", 14, 14), ("0200 0a00 0400 0e00 f8ff 0100", 14, 14),
+)
+
+
+def for_firms():
+    """Request A6: the numbers above, each with numbers that are no firm's; sums past 65,535; joint B for either firm."""
+    for text, *numbers in SHARED:
+        data = bytes.fromhex(text)
+        for firm in (1, 2):
+            loaded = engineer.load_for(firm, data)
+            assert (0 if engineer.did_load(loaded) else loaded) == numbers[firm - 1] == firm_fault(firm, data)[0], (text, firm)
+        for firm in (0, 3, 255, 256, 257, 258, 65537, 2 ** 31 + 1, 2 ** 32 - 1):
+            assert engineer.load_for(firm, data) == 16, (text, firm)
+    data = bytes.fromhex(SHARED[1][0])
+    assert engineer.load_for(1, data) == {1: (engineer.SOFTWOOD, 290), 255: (engineer.HARDWOOD, 1100)}
+    assert engineer.load_for(2, data) == {1: (engineer.SOFTWOOD, 350)}
+    few = firms.stretch(tables.TWO)
+    for size, number in ((65520, 0), (65524, 0), (65528, 14)):      # the second offset is a u16
+        data = firms.assemble(bytes(size), few)
+        assert [firm_fault(firm, data)[0] for firm in (1, 2)] == [number or 15, number], size
+        loaded = engineer.load_for(2, data)
+        assert loaded == (number or engineer.load(tables.assemble(tables.TWO))), size
+    b = records.write(records.joint_b())
+    data = firms.assemble(*(firms.stretch([(code, kind, 900)]) for code, kind in ((1, tables.SOFT), (200, tables.HARD))))
+    for firm, line in ((1, "fits 4634..4658 11931..11932 7346..7347"), (2, "refused 7 0 0 0"),
+                       (0, "refused 16 0 0 0"), (257, "refused 16 0 0 0")):
+        assert engineer.Reference(b, loaded=engineer.load_for(firm, data)).describe() == line, firm
+
+
+def sharing(seed, count):
+    """Shared tables by the literal text, and the numbers of model.py; alike for every other content of the other's stretch."""
+    stand_in, right, n = judge.StandIn(), 0, -1
+    for n, (name, table, _) in enumerate(shared_items(seed, count)):
+        number, entries = load_fault(table)
+        loaded = engineer.load_for(*table)
+        assert loaded == number if number else loaded == {
+            code: ((engineer.SOFTWOOD, engineer.HARDWOOD)[kind], density) for code, kind, density in entries}, name
+        assert stand_in.load(table) == number, name
+        for what, other in firms.others(seed, n, table, loaded):
+            assert loaded_of(other) == loaded and load_fault(other)[0] == number, (name, what)
+        if number in (0, 15):
+            # the two stretches and nothing else behind ten bytes, each by itself
+            one, two = (table.bytes[slice(*firms.named(table.bytes, firm))] for firm in (1, 2))
+            assert table.bytes == firms.assemble(one, two), name
+            assert loaded == engineer.load(firms.alone((one, two)[table.firm - 1])), name
+        right += number == 0
+    return n + 1, right
+
+
+def shared_items(seed, count):
+    yield from firms.firm_items()
+    some = (tables.generate(seed, n, "", b"") for n in range(count))
+    for n, (label, table, data) in enumerate(some):
+        yield (*firms.shared(seed, n, label, table), data)
 
 
 def woods_of(entries):
@@ -341,9 +442,26 @@ def tabled_items(seed, count):
     """The same with tables; a fifth of the systematic ones."""
     some = [item for n, item in enumerate(tables.record_items()) if n % 5 == 0]
     some += [tables.generate(seed, n, *records.generate(seed, n)) for n in range(count)]
+    yield from with_loaded(some)
+
+
+def with_loaded(some):
     for label, table, data in some:
         number, entries = load_fault(table)
-        yield label, data, number, engineer.load(table), {} if number else woods_of(entries)
+        yield label, data, number, loaded_of(table), {} if number else woods_of(entries)
+
+
+def loaded_of(table):
+    return engineer.load_for(*table) if isinstance(table, judge.Shared) else engineer.load(table)
+
+
+def shared_records(seed, count):
+    """The same for firms; a seventh of the systematic ones."""
+    some = [item for n, item in enumerate(firms.record_items()) if n % 7 == 0]
+    for n in range(count):
+        label, table, data = tables.generate(seed, n, *records.generate(seed, n))
+        some.append((*firms.shared(seed, n, label, table), data))
+    yield from with_loaded(some)
 
 
 def literal(seed, items):
@@ -459,12 +577,19 @@ def tabled_values(seed, count):
         yield tables.generate_values(seed, n, label, values.filled(seed, n, it))
 
 
+def shared_values(seed, count):
+    yield from firms.value_stream(seed, sum(1 for _ in firms.value_items()))
+    for n, (label, table, h) in enumerate(tabled_values(seed, count)):
+        if n % 5 == 0:
+            yield (*firms.shared(seed, n, label, table), h)
+
+
 def written_all(items):
     """Values by the literal text, and model.py's."""
     stand_in, written_ones = judge.StandIn(), 0
     for n, (label, table, h) in enumerate(items):
         number, entries = (0, None) if table is None else load_fault(table)
-        loaded = engineer.PRINTED if table is None else engineer.load(table)
+        loaded = engineer.PRINTED if table is None else loaded_of(table)
         code, buffer, answer = engineer.after_write(*h, loaded)
         if code:
             assert (len(h.fields) < 27 or len(h.answer) < 2) and (buffer, answer) == (h.buffer, h.answer), (n, label)
@@ -535,13 +660,16 @@ def main():
     hardwood()
     out_of_line()
     graded()
+    for_firms()
     writing()
     all_sets(a.seed, 3 * a.count)
     ties()
     print("printed figures and ties right, the rows of %d joints as the literal text has them" % (3 * a.count))
     print("%d tables, %d of them right, as the literal text has them" % loading(a.seed, 5 * a.count))
+    print("%d shared tables, %d of them right, as the literal text has them" % sharing(a.seed, 5 * a.count))
     print("brackets and roots of %d numbers as the literal text has them" % rooting(a.seed, 20 * a.count))
-    for items, handed, what in ((plain_items, plain_values, ""), (tabled_items, tabled_values, " with tables")):
+    for items, handed, what in ((plain_items, plain_values, ""), (tabled_items, tabled_values, " with tables"),
+                                (shared_records, shared_values, " for firms")):
         print("%d spacings and %d joints%s as the literal text has them" % (*literal(a.seed, items(a.seed, a.count)), what))
         print("%d records written%s as the literal text has them" % (written_all(handed(a.seed, a.count)), what))
 

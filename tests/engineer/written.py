@@ -1,8 +1,9 @@
 """Holds a program's answers to the engineer: its lines, what its writer and its reader of values leave in
 every slice, 02's laws of A2 from one to the other, what it says of a table, and the brackets and roots that it finds.
 
-table: the bytes handed in, None for the entry that takes none; loaded: what engineer.load gives for them.
-Where no table is handed in, the printed one written as a firm's must give the same answer.
+table: the bytes handed in, with a firm's number where they are shared, None for the entry that takes none; loaded: what
+engineer.load or load_for gives for them.  Where no table is handed in, the printed one written as a firm's must give the
+same answer; check_alike says whether other tables do.
 """
 import engineer
 from tables import PRINTED
@@ -32,6 +33,16 @@ def check_load(program, table, loaded):
     want = 0 if engineer.did_load(loaded) else loaded
     got = program.load(table)
     return True if got == want else "loaded: %r, should be %d" % (got, want)
+
+
+def check_alike(call, table, others):
+    """True, or by which of the other tables, (what, table), the call answers otherwise; call(table)."""
+    want = call(table) if others else None
+    for what, other in others:
+        got = call(other)
+        if got != want:
+            return "%r by the table, %s: %r" % (want, what, got)
+    return True
 
 
 def check_line(program, data, reference, table=None):

@@ -1,5 +1,5 @@
-"""Wrong programs, wrong writers and readers, and programs wrong with tables or with roots: model.py with one thing changed
-in each.  The harness must report all."""
+"""Wrong programs, wrong writers and readers, and programs wrong with tables, with firms or with roots: model.py with one thing
+changed in each.  The harness must report all."""
 from itertools import takewhile
 from math import atan2, cos, isqrt, log2, sin, sqrt      # floating point in wrong programs only
 
@@ -8,6 +8,7 @@ from model import Model, Refused, ceil_div
 WRONG = []          # (group, name, class)
 WRONG_WRITERS = []  # the same, for the entries that write and read values
 WRONG_TABLES = []   # (entry that is wrong, name, class), for the entries that take a table
+WRONG_FIRMS = []    # the same, for those that take a shared one: wrong there alone
 WRONG_ROOTS = []    # (what is wrong, name, class), for the entries that find brackets and roots
 
 
@@ -1356,14 +1357,29 @@ unread("version not tested", test_version=lambda self: None)
 ENTRY = {"loading": "load", "judging": "judge", "reading": "read_values", "writing": "write"}
 
 
-def mistables(where, name, /, **methods):
-    """For each of these entries a program with the fault in this entry alone."""
+def one_entry_wrong(what, bad, holds=lambda self: True):
+    """A program with the fault of `bad` in this entry alone, and there where it holds."""
+    def call(self, *lent):
+        self.__class__ = bad if holds(self) else Model
+        return getattr(self, ENTRY[what])(*lent)
+    return type("Wrong", (Model,), {ENTRY[what]: call})
+
+
+# What a call for a firm does not come to
+OWN_ALONE = {"table_tests", "small", "wrong_count", "wrong_offset", "wrong_end", "no_entry", "cut_entry", "stretch"}
+
+
+def mistables(where, name, /, firms=True, **methods):
+    """For each of these entries a program with the fault in this entry alone; and where it is one of calls for firms too, a
+    program with the fault in these calls alone."""
     bad = type("Bad", (Model,), methods)
-    for what in where:
-        def call(self, *lent, entry=ENTRY[what]):
-            self.__class__ = bad
-            return getattr(self, entry)(*lent)
-        WRONG_TABLES.append((what, name, type("Wrong", (Model,), {ENTRY[what]: call})))
+    WRONG_TABLES.extend((what, name, one_entry_wrong(what, bad)) for what in where)
+    if firms and not OWN_ALONE & set(methods):
+        add_firms(where, name, bad)
+
+
+def add_firms(where, name, bad):
+    WRONG_FIRMS.extend((what, name, one_entry_wrong(what, bad, lambda self: self.firm is not None)) for what in where)
 
 
 def throw(number):
@@ -1761,8 +1777,283 @@ misgrades("density 350 for all", density_of=weighed(lambda self, m, density: 350
 for _k, _what in enumerate(("use one higher", "capacity one lower", "share one lower")):
     misgrades(_what + " with a table", print_answer=lambda self, *figures, k=_k: Model.print_answer(self, *(
         z + (1, -1, -1)[i] * (i == k and self.table is not None) for i, z in enumerate(figures))))
-    misgrades(_what + " without a table", print_answer=lambda self, *figures, k=_k: Model.print_answer(self, *(
+    misgrades(_what + " without a table", firms=False, print_answer=lambda self, *figures, k=_k: Model.print_answer(self, *(
         z + (1, -1, -1)[i] * (i == k and self.table is None) for i, z in enumerate(figures))))
+
+# ----------------------------------------------------------------------------- firms
+
+
+def misfirms(name, where=ENTRY, /, **methods):
+    """For each of these entries a program with the fault in this entry alone, and there where a firm is named."""
+    add_firms(where, name, type("Bad", (Model,), methods))
+
+
+def firm_as(change):
+    """The firm's number taken for another one: change(number)."""
+    def test_table(self):
+        self.firm = change(self.firm)
+        Model.test_table(self)
+    return test_table
+
+
+misfirms("16 not tested, firm 1 for all others", test_table=firm_as(lambda n: 2 if n == 2 else 1))
+misfirms("16 not tested, firm 2 for all others", test_table=firm_as(lambda n: 1 if n == 1 else 2))
+misfirms("firm 0 as firm 1", test_table=firm_as(lambda n: n or 1))
+misfirms("firm 0 as firm 2", test_table=firm_as(lambda n: n or 2))
+misfirms("firm 3 as firm 1", test_table=firm_as(lambda n: 1 if n == 3 else n))
+misfirms("firm 3 as firm 2", test_table=firm_as(lambda n: 2 if n == 3 else n))
+misfirms("firms counted from 0", test_table=firm_as(lambda n: n + 1))
+misfirms("firms counted from 0, and firm 2 too", test_table=firm_as(lambda n: min(n, 1) + 1 if n < 3 else n))
+for _bits in (1, 2, 8, 16, 31):
+    misfirms("firm by its lowest %d bits" % _bits, test_table=firm_as(lambda n, bits=_bits: n % 2 ** bits))
+misfirms("firm by its lowest byte, 0 for 2", test_table=firm_as(lambda n: n % 256 or 2))
+misfirms("firm by its highest byte where the lowest is 0", test_table=firm_as(lambda n: n >> 24 if n % 2 ** 24 == 0 else n))
+misfirms("firm as a signed number, its sign lost", test_table=firm_as(lambda n: min(n, 2 ** 32 - n)))
+misfirms("firm 1 only", other_firm=lambda self, firm: firm != 1)
+misfirms("firm 2 only", other_firm=lambda self, firm: firm != 2)
+misfirms("firm 2's stretch for firm 1", stretch_of=lambda self, firm: Model.stretch_of(self, 2))
+misfirms("firm 1's stretch for firm 2", stretch_of=lambda self, firm: Model.stretch_of(self, 1))
+misfirms("the stretches exchanged", stretch_of=lambda self, firm: Model.stretch_of(self, 3 - firm))
+
+
+# ---- the order, and what else is answered
+
+def entries_of_any(self, firm):
+    """For numbers that are no firm's the first stretch."""
+    return Model.stretch_of(self, firm if firm in (1, 2) else 1)
+
+
+misfirms("14 before 16", table_tests=("test_layout", "test_firm", "test_entries"))
+misfirms("16 last", table_tests=("test_layout", "test_entries", "test_firm"), stretch_of=entries_of_any)
+misfirms("15 before 14", table_tests=("test_firm", "test_entries", "test_layout"))
+for _shown, _told in ((14, 16), (15, 16), (16, 14), (16, 15), (16, 7), (16, 1)):
+    misfirms("%d for %d" % (_told, _shown), test_table=renumbered({_shown: _told}))
+misfirms("16 for firm 0 alone, 14 for others", test_firm=lambda self: self.other_firm(self.firm) and throw(
+    16 if self.firm == 0 else 14))
+misfirms("16 with no bytes is 14", test_firm=lambda self: self.other_firm(self.firm) and throw(16 if self.handed else 14))
+misfirms("16 taken as the printed table", test_table=not_loaded(lambda self, r: r.place[0] != 16 and throw(r.place[0])))
+misfirms("always 16", other_firm=lambda self, firm: True)
+misfirms("14 not tested", test_shared=lambda self: None)
+misfirms("15 not tested", test_entries=lambda self: None)
+
+
+# ---- the layout
+
+def as_own(count):
+    """A firm's own table taken too, where the count says so or it does not load as a shared one."""
+    def test_table(self):
+        if self.firm in (1, 2) and len(self.handed) >= 6 and (self.table_u16(0) in count):
+            self.firm = None
+        Model.test_table(self)
+    return test_table
+
+
+misfirms("a firm's own table for both", test_table=as_own((1,)))
+misfirms("a shared table by its first pair alone", test_shared=lambda self: (
+    self.pairs_cut(len(self.handed)) or self.not_two(self.table_u16(0)) or self.apart(1, self.table_u16(2), 10)
+    or self.unfit(1, self.table_u16(4)) or 10 + self.table_u16(4) > len(self.handed)) and throw(14))
+misfirms("one entry for each firm too few", pairs_cut=lambda self, size: size < 22)
+misfirms("fewer than 10 bytes is 15", pairs_cut=lambda self, size: size < 10 and throw(15))
+misfirms("count not tested", not_two=lambda self, n: False)
+misfirms("count 1 accepted", not_two=lambda self, n: n not in (1, 2))
+misfirms("count 3 accepted", not_two=lambda self, n: n not in (2, 3))
+misfirms("count 0 accepted", not_two=lambda self, n: n not in (0, 2))
+misfirms("count of two or more accepted", not_two=lambda self, n: n < 2)
+misfirms("count by its low byte", not_two=lambda self, n: n & 255 != 2)
+misfirms("count by its high byte", not_two=lambda self, n: n not in (2, 512))
+misfirms("count 1 asked", not_two=lambda self, n: n != 1)
+
+misfirms("first offset 6", first_at=lambda self: 6)
+misfirms("first offset 6 accepted too", apart=lambda self, firm, offset, end: offset != end and (firm, offset) != (1, 6))
+misfirms("first offset 14", first_at=lambda self: 14)
+misfirms("first offset not tested", apart=lambda self, firm, offset, end: firm == 2 and offset != end)
+misfirms("second offset not tested", apart=lambda self, firm, offset, end: firm == 1 and offset != end)
+misfirms("offsets not tested", apart=lambda self, firm, offset, end: False)
+misfirms("offsets not tested, entries end to end", apart=lambda self, firm, offset, end: False, stretch_of=lambda self, firm: (
+    lambda one, two: self.handed[10:10 + one] if firm == 1 else self.handed[10 + one:10 + one + two])(
+        self.table_u16(4), self.table_u16(8)))
+misfirms("a gap allowed", apart=lambda self, firm, offset, end: offset < end)
+misfirms("a gap allowed between", apart=lambda self, firm, offset, end: offset < end if firm == 2 else offset != end)
+misfirms("a gap allowed before the first", apart=lambda self, firm, offset, end: offset < end if firm == 1 else offset != end)
+misfirms("a gap of a byte allowed", apart=lambda self, firm, offset, end: offset not in (end, end + 1))
+misfirms("a gap of an entry allowed", apart=lambda self, firm, offset, end: offset not in (end, end + 4))
+misfirms("an overlap allowed", apart=lambda self, firm, offset, end: offset > end or firm == 1 and offset != end)
+misfirms("an overlap of an entry allowed", apart=lambda self, firm, offset, end: offset != end and (firm, offset) != (2, end - 4))
+misfirms("pairs allowed to overlap", apart=lambda self, firm, offset, end: offset > end or firm == 2 and offset != end)
+misfirms("one stretch for both allowed", apart=lambda self, firm, offset, end: offset not in (10, end))
+misfirms("offsets by their low byte", apart=lambda self, firm, offset, end: (offset - end) % 256 != 0)
+misfirms("offsets from the first stretch on", apart=lambda self, firm, offset, end: offset != end - 10,
+         stretch_of=lambda self, firm: (lambda offset, n: self.handed[10 + offset:10 + offset + n])(*self.named_by(firm)))
+misfirms("firm 2's pair first", named_by=lambda self, firm: Model.named_by(self, 3 - firm))
+misfirms("firm 2's pair first, in either order", named_by=lambda self, firm: Model.named_by(
+    self, firm if self.table_u16(2) == 10 else 3 - firm))
+
+misfirms("the last sum not met", end_missed=lambda self, end, size: False)
+misfirms("trailing bytes accepted", end_missed=lambda self, end, size: end > size)
+misfirms("one trailing byte accepted", end_missed=lambda self, end, size: size - end not in (0, 1))
+misfirms("a trailing entry accepted", end_missed=lambda self, end, size: size - end not in (0, 4))
+misfirms("a second pair beyond the end accepted", end_missed=lambda self, end, size: end < size)
+misfirms("a second pair one byte beyond the end accepted", end_missed=lambda self, end, size: end - size not in (0, 1))
+misfirms("sums in 16 bits", add_up=lambda self, firm, offset, n: (offset + n) % 65536)
+misfirms("the first sum in 16 bits", add_up=lambda self, firm, offset, n: (offset + n) % 65536 if firm == 1 else offset + n)
+misfirms("the second sum in 16 bits", add_up=lambda self, firm, offset, n: (offset + n) % 65536 if firm == 2 else offset + n)
+misfirms("the size in 16 bits", end_missed=lambda self, end, size: end != size % 65536)
+misfirms("sum and size in 16 bits", end_missed=lambda self, end, size: (end - size) % 65536 != 0)
+misfirms("at most 65,535 bytes", end_missed=lambda self, end, size: end != size or size > 65535)
+misfirms("a firm's stretch up to the end", end_missed=lambda self, end, size: end > size, stretch_of=lambda self, firm: (
+    self.handed[self.table_u16(6):] if firm == 2 else Model.stretch_of(self, 1)))
+
+misfirms("lengths not tested", unfit=lambda self, firm, n: False)
+misfirms("the other firm's length not tested", unfit=lambda self, firm, n: firm == self.firm and Model.unfit(self, firm, n))
+misfirms("its own length not tested", unfit=lambda self, firm, n: firm != self.firm and Model.unfit(self, firm, n))
+misfirms("firm 1's length not tested", unfit=lambda self, firm, n: firm == 2 and Model.unfit(self, firm, n))
+misfirms("firm 2's length not tested", unfit=lambda self, firm, n: firm == 1 and Model.unfit(self, firm, n))
+misfirms("length 0 accepted", unfit=lambda self, firm, n: n % 4 != 0)
+misfirms("the other firm's length 0 accepted", unfit=lambda self, firm, n: n % 4 != 0 or firm == self.firm and n == 0)
+misfirms("firm 2's length 0 accepted", unfit=lambda self, firm, n: n % 4 != 0 or firm == 1 and n == 0)
+misfirms("firm 1's length 0 accepted", unfit=lambda self, firm, n: n % 4 != 0 or firm == 2 and n == 0)
+misfirms("lengths no multiple of 4 accepted", unfit=lambda self, firm, n: n == 0)
+misfirms("the other firm's length no multiple of 4 accepted", unfit=lambda self, firm, n: (
+    n == 0 or firm == self.firm and n % 4 != 0))
+misfirms("a multiple of 4 of both lengths enough", unfit=lambda self, firm, n: (
+    n == 0 or (self.table_u16(4) + self.table_u16(8)) % 4 != 0))
+misfirms("lengths multiples of 2 enough", unfit=lambda self, firm, n: n == 0 or n % 2 != 0)
+misfirms("lengths multiples of 8 asked", unfit=lambda self, firm, n: n == 0 or n % 8 != 0)
+misfirms("lengths alike asked", unfit=lambda self, firm, n: Model.unfit(self, firm, n) or self.table_u16(4) != self.table_u16(8))
+misfirms("a length no multiple of 4 is 15", unfit=lambda self, firm, n: n == 0 or n % 4 != 0 and throw(15))
+misfirms("a length of 0 is 15", unfit=lambda self, firm, n: n == 0 and throw(15) or n % 4 != 0)
+misfirms("the other firm's wrong length is 15", unfit=lambda self, firm, n: (
+    Model.unfit(self, firm, n) and (firm == self.firm or throw(15))))
+misfirms("more than 255 entries of the other are 14", unfit=lambda self, firm, n: (
+    Model.unfit(self, firm, n) or firm != self.firm and n > 1020))
+misfirms("14 to the firm whose pair is wrong alone", test_shared=lambda self: (lambda offset, n: (
+    len(self.handed) < 10 or self.table_u16(0) != 2 or offset < 10 or offset + n > len(self.handed) or Model.unfit(self, 1, n))
+    and throw(14))(*self.named_by(self.firm)))
+
+
+# ---- the entries
+
+def parts_of(self):
+    return Model.stretch_of(self, 1), Model.stretch_of(self, 2)
+
+
+def fours(self, part):
+    return [self.entry(part[at:at + 4]) for at in range(0, len(part) - 3, 4)]
+
+
+def are_faulty(entries):
+    codes = [0] + [code for code, _, _ in entries]
+    return any(a >= b for a, b in zip(codes, codes[1:])) or any(k > 1 or not 290 <= d <= 1100 for _, k, d in entries)
+
+
+def test_both(self):
+    """The other firm's entries too."""
+    if any(are_faulty(fours(self, part)) for part in parts_of(self)):
+        throw(15)
+
+
+def further(before, behind):
+    """So many bytes before and behind the stretch, as far as there are any, are tested too."""
+    def tested(self, entries):
+        offset, n = self.named_by(self.firm)
+        return fours(self, self.handed[offset - before:offset + n + behind])
+    return tested
+
+
+misfirms("15 to both", test_entries=test_both)
+misfirms("15 of firm 1 to both", test_entries=lambda self: test_both(self) if self.firm == 2 else Model.test_entries(self))
+misfirms("15 of firm 2 to both", test_entries=lambda self: test_both(self) if self.firm == 1 else Model.test_entries(self))
+misfirms("15 of the other firm alone", tested=lambda self, entries: fours(self, Model.stretch_of(self, 3 - self.firm)))
+misfirms("15 only where both are faulty", test_entries=lambda self: (
+    all(are_faulty(fours(self, part)) for part in parts_of(self)) and throw(15)))
+misfirms("both firms' entries tested as one list", tested=lambda self, entries: [
+    e for part in parts_of(self) for e in fours(self, part)])
+misfirms("firm 2's codes above firm 1's", not_above=lambda self, code, before: code <= before or (
+    self.firm == 2 and before == 0 and code <= parts_of(self)[0][-4]))
+misfirms("an entry read past its stretch, and tested", tested=further(0, 4))
+misfirms("an entry read before its stretch, and tested", tested=further(4, 0))
+misfirms("all entries up to the table's end tested", tested=further(0, 2 ** 17))
+misfirms("the other firm's kinds tested", tested=lambda self, entries: entries + [
+    (255, e[1], 290) for e in fours(self, Model.stretch_of(self, 3 - self.firm)) if e[1] > 1])
+
+
+def lookup_in(choose):
+    """The classes kept: choose(own, other), of dictionaries."""
+    def kept(self):
+        own, other = (
+            {code: (kind, density) for code, kind, density in fours(self, Model.stretch_of(self, firm))}
+            for firm in (self.firm, 3 - self.firm))
+        return choose(own, other)
+    return kept
+
+
+misfirms("the other firm's classes too", USES, kept=lookup_in(lambda own, other: {**other, **own}))
+misfirms("the other firm's classes first", USES, kept=lookup_in(lambda own, other: {**own, **other}))
+misfirms("the other firm's classes", USES, kept=lookup_in(lambda own, other: other))
+misfirms("classes that both have", USES, kept=lookup_in(lambda own, other: {c: own[c] for c in own if c in other}))
+misfirms("classes that the other lacks", USES, kept=lookup_in(lambda own, other: {c: own[c] for c in own if c not in other}))
+misfirms("an entry read past its stretch, and looked up", USES, kept=lookup_in(
+    lambda own, other: {**dict(list(other.items())[:1]), **own}))
+misfirms("as many entries as the other has", USES, kept=lookup_in(lambda own, other: dict(list(own.items())[:len(other)])))
+misfirms("the other firm's woods", ("judging",), look_up=lambda self, c: (
+    lambda wood, other: wood and next(((k, d) for code, k, d in other if code == c), wood))(
+        Model.look_up(self, c), fours(self, Model.stretch_of(self, 3 - self.firm))))
+misfirms("the stretch of the call before", USES, kept=remembering(lambda memory, self: (
+    lambda now, before: now if before is None else before)(Model.kept(self), memory.setdefault("table", Model.kept(self)))))
+misfirms("stretches kept by the pairs", USES, kept=remembering(
+    lambda memory, self: memory.setdefault((self.firm, self.handed[:10]), Model.kept(self))))
+misfirms("stretches kept by the table, for either firm", USES, kept=remembering(
+    lambda memory, self: memory.setdefault(self.handed, Model.kept(self))))
+
+# ---- what comes first, and what is left behind
+
+def number_for(self):
+    one = Model()
+    one.firm = self.firm
+    return one.load(self.handed)
+
+
+def firm_before_slices(entry):
+    """A table that does not load is answered where another slice is too short."""
+    def call(self, *lent):
+        number, answer = number_for(self), lent[-1]
+        code = entry(self, *lent)
+        if code == 1 and number and len(answer) >= 2:
+            answer[:2] = [number, 0]
+            return 0
+        return code
+    return call
+
+
+for _what, _entry in (("reading", Model.read_values), ("writing", Model.write)):
+    misfirms("16 before a slice that is too short", (_what,), **{ENTRY[_what]: firm_before_slices(_entry)})
+    misfirms("the number for the code", (_what,), **{
+        ENTRY[_what]: lambda self, *lent, entry=_entry: entry(self, *lent) or number_for(self)})
+    misfirms("code 1 for 16", (_what,), **{
+        ENTRY[_what]: lambda self, *lent, entry=_entry: entry(self, *lent) or int(number_for(self) == 16)})
+for _which, _name in enumerate(("fields", "x", "y", "marks")):
+    misfirms("%s left as they were on 16" % _name, ("reading",), refuse_read=lambda self, n, *lent, k=_which: (
+        Model.refuse_read(self, n, *(list(z) if i == k and n == 16 else z for i, z in enumerate(lent)))))
+misfirms("number of dowels on 16", ("reading",), refuse_read=lambda self, n, *lent: (
+    Model.refuse_read(self, n, *lent), lent[4].__setitem__(1, int(n == 16)))[0])
+misfirms("buffer changed on refusal 16", ("writing",), refuse_write=refusing(
+    lambda self, n, buffer, answer: buffer.__setitem__(0, buffer[0] ^ 1) if n == 16 and buffer else None))
+misfirms("length not 0 on refusal 16", ("writing",), refuse_write=refusing(
+    lambda self, n, buffer, answer: answer.__setitem__(1, self.record_length()) if n == 16 else None))
+misfirms("written for all that on refusal 16", ("writing",), refuse_write=refusing(
+    lambda self, n, buffer, answer: n == 16 and len(buffer) >= self.record_length()
+    and Model.fill(self, buffer, Model.record(self))))
+misfirms("the firm for a place", ("judging",), print_refusal=lambda self, n, m, i, j: Model.print_refusal(
+    self, n, m or self.firm * (n > 13), i, j))
+misfirms("a zero report for 16", ("judging",), print_refusal=lambda self, n, m, i, j: (
+    "fits 0 0 0\n" if n == 16 else Model.print_refusal(self, n, m, i, j)))
+
+# within the brackets: only the answer by the same entries alone, or by another content of the other stretch, tells
+for _k, _what in enumerate(("use one higher", "capacity one lower", "share one lower")):
+    for _when, _holds in (("for firm 1", lambda self: self.firm == 1), ("for firm 2", lambda self: self.firm == 2),
+                          ("where the other's first code is odd", lambda self: Model.stretch_of(self, 3 - self.firm)[0] % 2 == 1)):
+        misfirms("%s %s" % (_what, _when), ("judging",), print_answer=lambda self, *figures, k=_k, holds=_holds: (
+            Model.print_answer(self, *(z + (1, -1, -1)[i] * (i == k and holds(self)) for i, z in enumerate(figures)))))
 
 # ----------------------------------------------------------------------------- roots
 

@@ -1,5 +1,6 @@
 /* Calls the entries of include/negwishal.h: here judging, every field of it, then the tests of the others.  Those of
- * judging, writing and reading without a table are made once more with the printed table handed in as bytes.
+ * judging, writing and reading without a table are made once more with the printed table handed in as bytes, and for either
+ * firm with the printed one as its part of a shared table.
  * check JOINT-B DOWELS-599 MEMBER-1-EDGE-719 */
 #include <inttypes.h>
 #include <stdio.h>
@@ -162,9 +163,18 @@ static void check_judge(const struct file file[FILES])
     }
 }
 
+/* By the table in use, which is none or the printed one. */
+static void check_all(const struct file file[FILES])
+{
+    const struct file *b = &file[JOINT_B], *c = &file[CLOSE];
+    check_judge(file);
+    check_rows();
+    check_write(b->bytes, b->length);
+    check_read(b->bytes, b->length, c->bytes, c->length);
+}
+
 int main(int argc, char **argv)
 {
-    static const struct table *const tables[2] = {NULL, &PRINTED};
     static struct file file[FILES];
     if (argc != 1 + FILES)
         return 2;
@@ -173,17 +183,21 @@ int main(int argc, char **argv)
         if (file[k].length == 0)
             return 2;
     }
-    const struct file *b = &file[JOINT_B], *c = &file[CLOSE];
+    const struct file *b = &file[JOINT_B];
 
     check_names();
-    for (int k = 0; k < 2; k++) {
-        in_use = tables[k];
-        check_judge(file);
-        check_rows();
-        check_write(b->bytes, b->length);
-        check_read(b->bytes, b->length, c->bytes, c->length);
+    use(NULL, NULL);
+    check_all(file);
+    use(NULL, &PRINTED);
+    check_all(file);
+    for (uint32_t firm = 1; firm <= 2; firm++) {
+        const struct table shared = printed_for(firm);
+        use(&firm, &shared);
+        check_all(file);
+        use(NULL, NULL);
     }
     check_table(b->bytes, b->length);
+    check_firms(b->bytes, b->length);
     check_root();
 
     printf("header: %d tests, %d faults\n", tests, faults);

@@ -25,8 +25,13 @@ struct table {
 
 extern const struct table PRINTED;
 
-/* By which table the three entries below work; NULL: they are the entries without a table. */
+/* By which table the three entries below work, and for which firm; NULL: they are the entries without a table, and those
+ * without a firm. */
 extern const struct table *in_use;
+extern const uint32_t *firm_in_use;
+void use(const uint32_t *firm, const struct table *t);
+/* The printed table as what a firm has of a shared one, beside entries that are faulty. */
+struct table printed_for(uint32_t firm);
 uint32_t judge_by(const uint8_t *record, size_t record_len, uint64_t *report, size_t report_len);
 uint32_t write_by(const int32_t *fields, size_t fields_len, const int32_t *x, size_t x_len, const int32_t *y,
                   size_t y_len, const int32_t *marks, size_t marks_len, uint8_t *buffer, size_t buffer_len,
@@ -51,6 +56,7 @@ void short_read(const uint8_t *record, size_t n);
 void wrote(const char *what, const struct values *v, size_t room, uint64_t number, const uint8_t *bytes);
 void short_write(const struct values *v);
 
+void check_firms(const uint8_t *b, size_t length);
 void check_root(void);
 void check_table(const uint8_t *b, size_t length);
 void check_write(const uint8_t *b, size_t length);

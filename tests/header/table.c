@@ -20,11 +20,21 @@ const struct table PRINTED = {50, {1, 0, 6, 0, 44, 0,
                                    11, 1, 0x84, 3}}; /* 900 */
 
 const struct table *in_use = NULL;
+const uint32_t *firm_in_use = NULL;
+
+void use(const uint32_t *firm, const struct table *t)
+{
+    firm_in_use = firm;
+    in_use = t;
+}
 
 uint32_t judge_by(const uint8_t *record, size_t record_len, uint64_t *report, size_t report_len)
 {
-    return in_use == NULL ? negwishal_judge(record, record_len, report, report_len)
-                          : negwishal_judge_with(in_use->bytes, in_use->length, record, record_len, report, report_len);
+    if (in_use == NULL)
+        return negwishal_judge(record, record_len, report, report_len);
+    if (firm_in_use == NULL)
+        return negwishal_judge_with(in_use->bytes, in_use->length, record, record_len, report, report_len);
+    return negwishal_judge_for(*firm_in_use, in_use->bytes, in_use->length, record, record_len, report, report_len);
 }
 
 uint32_t write_by(const int32_t *fields, size_t fields_len, const int32_t *x, size_t x_len, const int32_t *y,
@@ -34,8 +44,11 @@ uint32_t write_by(const int32_t *fields, size_t fields_len, const int32_t *x, si
     if (in_use == NULL)
         return negwishal_write(fields, fields_len, x, x_len, y, y_len, marks, marks_len, buffer, buffer_len, answer,
                                answer_len);
-    return negwishal_write_with(in_use->bytes, in_use->length, fields, fields_len, x, x_len, y, y_len, marks, marks_len,
-                                buffer, buffer_len, answer, answer_len);
+    if (firm_in_use == NULL)
+        return negwishal_write_with(in_use->bytes, in_use->length, fields, fields_len, x, x_len, y, y_len, marks,
+                                    marks_len, buffer, buffer_len, answer, answer_len);
+    return negwishal_write_for(*firm_in_use, in_use->bytes, in_use->length, fields, fields_len, x, x_len, y, y_len, marks,
+                               marks_len, buffer, buffer_len, answer, answer_len);
 }
 
 uint32_t read_by(const uint8_t *record, size_t record_len, int32_t *fields, size_t fields_len, int32_t *x, size_t x_len,
@@ -44,8 +57,11 @@ uint32_t read_by(const uint8_t *record, size_t record_len, int32_t *fields, size
     if (in_use == NULL)
         return negwishal_read(record, record_len, fields, fields_len, x, x_len, y, y_len, marks, marks_len, answer,
                               answer_len);
-    return negwishal_read_with(in_use->bytes, in_use->length, record, record_len, fields, fields_len, x, x_len, y, y_len,
-                               marks, marks_len, answer, answer_len);
+    if (firm_in_use == NULL)
+        return negwishal_read_with(in_use->bytes, in_use->length, record, record_len, fields, fields_len, x, x_len, y,
+                                   y_len, marks, marks_len, answer, answer_len);
+    return negwishal_read_for(*firm_in_use, in_use->bytes, in_use->length, record, record_len, fields, fields_len, x,
+                              x_len, y, y_len, marks, marks_len, answer, answer_len);
 }
 
 /* ---- what loads */

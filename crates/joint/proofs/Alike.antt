@@ -5,8 +5,7 @@ use mathlib.Core.Path.{◌≡◌, sym, ap, ◌∙◌}
 use mathlib.Core.List.{List, ◌++◌}
 use native.Mathlib.Decide.{ℕ_discrete}
 use Rattle.tables.specs.Tests.{Test, first_holding}
-use Rattle.codes.specs.Tables.{printed_classes}
-use Rattle.tables.specs.Table.{Table, Loaded, Right, Alike, printed, table_bytes, printed_as_own}
+use Rattle.tables.specs.Table.{Table, Loaded, Right, Alike, printed, printed_bytes, printed_as_own}
 use Rattle.tables.proofs.Loading.{own_right, printed_right}
 use Rattle.tables.proofs.Same.{printed_alike}
 use Rattle.joint.specs.declared.Members.{Members}
@@ -66,7 +65,7 @@ module _ (t u : Table) (p : Right t) (q : Right u) (alike : Alike t u) where
 
 -- ---- the printed table as bytes
 pub printed_report : (s : List ℕ) → report_of printed_as_own s ≡ report_of printed s
-printed_report = same_report printed_as_own printed (own_right (table_bytes printed_classes)) printed_right printed_alike
+printed_report = same_report printed_as_own printed (own_right printed_bytes) printed_right printed_alike
 
 pub printed_reading : (s : List ℕ) → reading_of printed_as_own s ≡ reading_of printed s
-printed_reading = same_reading printed_as_own printed (own_right (table_bytes printed_classes)) printed_right printed_alike
+printed_reading = same_reading printed_as_own printed (own_right printed_bytes) printed_right printed_alike

@@ -7,8 +7,8 @@ use borrow.Author.Tests.{eq-eqb, ne_eqb, eqb-true, eqb-false, le-leb, lt-leb}
 use native.Mathlib.Decide.{ℕ_discrete}
 use lib.Dec.{eqb}
 use Rattle.tables.specs.declared.Source.{Source}
-use Rattle.tables.specs.Table.{Table, table_of, Right}
-use Rattle.tables.proofs.Loading.{right}
+use Rattle.tables.specs.Table.{Table, table_number, Loaded, own_table, shared_table, table_of, Right}
+use Rattle.tables.proofs.Loading.{own_right, shared_right, right}
 use Rattle.spacing.specs.Verdict.{Fault}
 use Rattle.spacing.specs.Verdict.{fault}
 use Rattle.std.specs.Prelude.{Ok, Err}
@@ -23,7 +23,7 @@ use Rattle.joint.specs.Claim.{Accepted, Judged, Reported}
 use Rattle.joint.specs.Use.{verdict_of}
 use Rattle.joint.specs.Returned.{answered, unanswered, report_of, Passed}
 use Rattle.joint.proofs.Order.{unnumbered}
-use Rattle.joint.proofs.Faults.{unrefused, given, outcome_accepted, rejected}
+use Rattle.joint.proofs.Faults.{not_loaded, unrefused, given, outcome_accepted, rejected}
 use Rattle.joint.proofs.Accepted.{fields_hold}
 use Rattle.joint.proofs.Answers.{answers}
 
@@ -71,6 +71,12 @@ pub report_refused : (t : Table) (s : List ℕ) → (Accepted t s → ⊥) → u
 unfolding report_of
 report_refused t s h = rw (ne_eqb (refusal_of t s).number 0 h)
 
+-- by a table that did not load
+pub report_not_loaded : (t : Table) (s : List ℕ) → (Loaded t → ⊥) → report_of t s ≡ unanswered (fault (table_number t) 0 0 0)
+report_not_loaded t s f =
+    let e = not_loaded t s f in
+    sym (report_refused t s (λ a. f (sym (ap (λ (z : Fault). z.number) e) ∙ a))) ∙ ap unanswered e
+
 pub claim : (t : Table) → Right t → (s : List ℕ) → Judged t s (report_of t s)
 unfolding answered unanswered
 claim t k s = go (ℕ_discrete (refusal_of t s).number 0)
@@ -98,9 +104,16 @@ claim t k s = go (ℕ_discrete (refusal_of t s).number 0)
           accepted = λ h. absurd (f h);
         })
 
--- 'for every sequence of bytes handed in as table and every sequence handed in as record'
+-- for every table that a call can name and every sequence of bytes handed in as record
 pub claimed : (source : Source) (s : List ℕ) → Judged (table_of source) s (report_of (table_of source) s)
 claimed source = claim (table_of source) (right source)
+
+-- A4: 'for every sequence of bytes handed in as table'; A6: and for every number as the firm's
+pub claimed_with : (b s : List ℕ) → Judged (own_table b) s (report_of (own_table b) s)
+claimed_with b = claim (own_table b) (own_right b)
+
+pub claimed_for : (firm : ℕ) (b s : List ℕ) → Judged (shared_table firm b) s (report_of (shared_table firm b) s)
+claimed_for firm b = claim (shared_table firm b) (shared_right firm b)
 
 pub judged : {t : Table} → Right t → {s : List ℕ} {r : Report} → r ≡ report_of t s → Reported t s r
 judged {t} k {s} {r} e = record { claim = subst⁻¹ (Judged t s) e (claim t k s); is = e }

@@ -21,10 +21,10 @@ use Rattle.joint.specs.Order.{holding, tests, position}
 use Rattle.numbers.specs.Numbers.{force}
 use Rattle.joint.specs.Refusal.{loads_within, fields_within, no_force, script_tests, designer_tests, drill_tests, record_tests}
 use Rattle.tables.specs.declared.Refusal.{Refusal as TableRefusal}
-use Rattle.tables.specs.declared.Refusal.TheVariants.{OtherLayout, EntryOutside}
 use Rattle.tables.specs.Tests.{Test, test, first_holding, numbered}
 use Rattle.tables.specs.Table.{Table, table_number, Loaded, Right}
 use Rattle.tables.specs.Told.{told as table_told}
+use Rattle.tables.proofs.Loading.{above_0}
 use Rattle.joint.specs.Refusal.{fault10, fault11, fault12, is_fault, frame, alongs, acrosses, drill_fault}
 use Rattle.joint.specs.Refusal.{refusal_number, refusal_of, zero_values, reading_of, outcome, outcome_of}
 use Rattle.joint.specs.declared.Values.{Values}
@@ -322,8 +322,7 @@ numbered_from_1 EmptyOutline h = omega arith
 numbered_from_1 NoForce h = omega arith
 
 pub unread_from_1 : (r : Unread) → unread_number r ≡ 0 → ⊥
-unread_from_1 (TableUnread OtherLayout) h = omega arith
-unread_from_1 (TableUnread EntryOutside) h = omega arith
+unread_from_1 (TableUnread r) h = let p = above_0 r in omega arith
 unread_from_1 (Record r) h = numbered_from_1 r h
 
 pub rejected : (r : Rejection) → (fault_in r).number ≡ 0 → ⊥

@@ -11,7 +11,9 @@ use Rattle.numbers.specs.Numbers.{twos_complement, i32_at, coordinate, force}
 use Rattle.codes.specs.Tables.{steel_of}
 use Rattle.tables.specs.Tests.{first_holding}
 use Rattle.tables.specs.Classes.{class_in}
-use Rattle.tables.specs.Table.{entries_in, refusal14, entry_within, rise, refusal15, own_table}
+use Rattle.tables.specs.Entries.{entries_in, entry_within, rise, refusal15}
+use Rattle.tables.specs.Pairs.{all_whole, refusal14}
+use Rattle.tables.specs.Table.{own_table}
 use Rattle.tables.proofs.Loading.{own_right}
 use Rattle.strength.specs.Fraction.{Fraction, whole}
 use Rattle.strength.specs.Shear.{AtMostR, bearing}
@@ -41,7 +43,7 @@ abbrev refusals : List Fault
 refusals = none ∷ none ∷ none ∷ fault 7 0 0 0 ∷ fault 14 0 0 0 ∷ fault 15 0 0 0 ∷ []
 
 refused_as : map (λ (g : Graded). refusal_of (own_table g.table) g.bytes) graded ≡ refusals
-unfolding refusal_of refusal_number first_holding refusal14 entries_in entry_within rise refusal15 refusal1 refusal2 refusal3 number_at bound
+unfolding refusal_of refusal_number first_holding all_whole refusal14 entries_in entry_within rise refusal15 refusal1 refusal2 refusal3 number_at bound
     all_follow chained refusal4 one_if once refusal5 positions_length refusal6 coordinate force class_in outline_within member_within
     members_within dowel_within coordinates positions_within loads_within fields_within outline_empty empty_outlines no_force drill_fault
     twos_complement i32_at part_of_pair pair_of_kind member_at members_in dowel_in column positions_in loads_in values_of pair_fault
@@ -101,19 +103,19 @@ abbrev AtMost : ℕ → Fraction → Type 0
 AtMost kind = AtMostR (design_of (own_table (one_class 1 kind)) wide).plane
 
 hardwood_passes : AtMost 1 (whole 11481)
-unfolding plane_in bearing class_in entries_in steel_of
+unfolding plane_in bearing class_in number_at bound all_follow chained all_whole refusal14 entries_in steel_of
 hardwood_passes = record { first = lit≤ tt; second = record { within = lit≤ tt; square = lit≤ tt }; third = lit≤ tt }
 
 hardwood_fails : AtMost 1 (whole 11482) → ⊥
-unfolding plane_in bearing class_in entries_in steel_of
+unfolding plane_in bearing class_in number_at bound all_follow chained all_whole refusal14 entries_in steel_of
 hardwood_fails p = not-le_of_lt (lit< tt) p.first
 
 softwood_passes : AtMost 0 (whole 9646)
-unfolding plane_in bearing class_in entries_in steel_of
+unfolding plane_in bearing class_in number_at bound all_follow chained all_whole refusal14 entries_in steel_of
 softwood_passes = record { first = lit≤ tt; second = record { within = lit≤ tt; square = lit≤ tt }; third = lit≤ tt }
 
 softwood_fails : AtMost 0 (whole 9647) → ⊥
-unfolding plane_in bearing class_in entries_in steel_of
+unfolding plane_in bearing class_in number_at bound all_follow chained all_whole refusal14 entries_in steel_of
 softwood_fails p = not-le_of_lt (lit< tt) p.first
 
 pub all_graded : AllGraded graded

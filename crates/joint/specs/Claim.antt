@@ -1,5 +1,6 @@
 -- The top claim: what a report says of the bytes handed in, read by a table of classes (01, 'Rows, share and use', last paragraph; demands 1, 2
--- and 3). One claim, for the printed table and for every sequence of bytes that is handed in as a firm's own (02, A4).
+-- and 3). One claim, for the printed table, for every sequence of bytes that is handed in as a firm's own (02, A4), and for every number as the
+-- firm's with every sequence of bytes as the table that firms share (A6).
 use Rattle.std.specs.Prelude.{ℕ, ◌≡◌, List}
 use Rattle.joint.specs.Answer.Verdict.{Refused}
 use Rattle.joint.specs.Answer.{Report}

@@ -1,6 +1,6 @@
 -- Document 01, 'Who causes which refusal': one test for each number, over the whole record, in 01's order. Those of 7 to 9 are tests of
 -- its values, so that a writer can make them too; those of 10 to 12 are the rules of crate `spacing` at its values. A record is read by a
--- table of classes, the printed one or a firm's own (02, A4), whose tests come before all others.
+-- table of classes, the printed one or a firm's (02, A4, A6), whose tests come before all others.
 use Rattle.std.specs.Prelude.{ℕ, zero, suc, ◌+◌, ◌*◌, List, [], ◌∷◌, ◌++◌, Bool, true, cond, not, ◌&&◌, ◌||◌, length, get_or, replicate, ℤ, pos, nat_abs, ltb, leb, eqb}
 use Rattle.std.specs.Int.Signed.{le_z}
 use Rattle.numbers.specs.Numbers.{coordinate, force}
@@ -207,7 +207,7 @@ drill_fault v =
     spacing_verdict (spaced v.members.member1) (spaced v.members.member2) v.dowel.diameter v.loads.fx
     v.loads.fy v.positions.x v.positions.y v.positions.n
 
--- 'For 1 to 9 the place is 0, 0, 0'; for 14 and 15 too (02, A4)
+-- 'For 1 to 9 the place is 0, 0, 0'; for 14 to 16 too (02, A4, A6)
 unfoldable pub refusal_of : Table → List ℕ → Fault
 refusal_of t s = cond (eqb (refusal_number t s) 0) (drill_fault (values_of s)) (fault (refusal_number t s) 0 0 0)
 

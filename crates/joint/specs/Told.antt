@@ -54,7 +54,7 @@ abbrev pub reading : Result Values Unread → Reading
 reading (Ok v) = record { number = 0; values = v }
 reading (Err r) = record { number = unread_number r; values = zero_values }
 
--- 'For 1 to 9 the place is 0, 0, 0', and for 14 and 15
+-- 'For 1 to 9 the place is 0, 0, 0', and for 14 to 16
 abbrev pub fault_in : Rejection → Fault
 fault_in (NotRead r) = fault (unread_number r) 0 0 0
 fault_in (Plan f) = fault_of f

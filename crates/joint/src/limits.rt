@@ -42,6 +42,7 @@ const MOST_DIAMETER: usize = 30;
 
 // One call of std under the record's word, `between`, by which the definitions tell a limit. The limits of one part are
 // joined by `&`: no field's test hides another's; of the positions N's comes first, as it says how many to test (docs/DECISIONS.md).
+// The positions come last, and by `&&`: only they have a loop.
 fn is_between(low: usize, high: usize, n: usize) -> bool
     ensures { result ≡ between low high n }
 {
@@ -106,8 +107,8 @@ fn fields_within(table: Source, v: &Values) -> bool
         & member_within(table, &v.members.member2)
         & (is_between(LEAST_DIAMETER, MOST_DIAMETER, v.dowel.diameter as usize)
             & is_between(FIRST_CODE, LAST_STEEL, v.dowel.steel as usize))
-        & positions_within(&v.positions)
         & loads_within(&v.loads)
+        && positions_within(&v.positions)
 }
 
 // Refusals 7 to 9: the first that values have, whether a record has them or a writer is handed them.

@@ -28,7 +28,7 @@ impl Refusal {
     }
 }
 
-// Why a record is not read: the table of classes is turned away, by 14 or 15, or the record is, by 1 to 9.
+// Why a record is not read: the table of classes is turned away, by 14 to 16, or the record is, by 1 to 9.
 #[derive(Clone, Copy, PartialEq, Eq, Debug)]
 pub enum Unread {
     Table(tables::Refusal),

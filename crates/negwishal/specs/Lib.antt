@@ -1,3 +1,4 @@
 pub mod Export
 pub mod Exchange
+pub mod Same
 pub mod Working

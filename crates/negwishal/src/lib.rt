@@ -1,10 +1,10 @@
 // The entries for C: a record is judged, its values are read, and a record is written from values, by the printed table of classes, or, `_with`, by
-// a firm's own; and such a table is loaded. Each slice of numbers has an order that is fixed for good. The crate `negwishal_c` exports them under
-// these names.
+// a firm's own, or, `_for`, by what a firm has of a table that two firms share; and such tables are loaded. Each slice of numbers has an order that
+// is fixed for good. The crate `negwishal_c` exports them under these names.
 #![tactic(auto)]
 
 ghost use Rattle.std.specs.Prelude.{◌≡◌, ◌≤◌, length};
-ghost use Rattle.tables.specs.Table.{printed, own_table, table_of, table_number};
+ghost use Rattle.tables.specs.Table.{printed, own_table, shared_table, table_of, table_number};
 ghost use Rattle.joint.specs.Told.{told};
 ghost use Rattle.negwishal.specs.Export.{filled, Exported};
 ghost use Rattle.negwishal.specs.Exchange.{places, ReadOut, WroteOut};
@@ -45,13 +45,29 @@ fn numbers_in(judgement: Judgement) -> [u64; FIELDS]
     }
 }
 
-// Loads a firm's own table of classes: 0, or 14 or 15, by which it is turned away.
+// Loads a table of classes: 0, or the number by which it is turned away.
+fn load_by(table: Source) -> u32
+    ensures { result ≡ table_number (table_of table.entry) }
+{
+    table
+        .load()
+        .err()
+        .map_or(0, |refusal| refusal.number() as u32)
+}
+
+// A firm's own table: 0, 14 or 15.
 pub fn negwishal_load(table: &[u8]) -> u32
     ensures { result ≡ table_number (own_table table.now) }
 {
-    tables::load(table)
-        .err()
-        .map_or(0, |refusal| refusal.number() as u32)
+    load_by(Source::own(table))
+}
+
+// What a firm, 1 or 2, has of a table that both share: 0, 14, 15 or 16. In this entry and those `_for` below any number stands as the firm's, and the
+// bytes of the table may be any.
+pub fn negwishal_load_for(firm: u32, shared: &[u8]) -> u32
+    ensures { result ≡ table_number (shared_table firm shared.now) }
+{
+    load_by(Source::for_firm(firm, shared))
 }
 
 // Judges a record by a table. A slice of fewer than eight numbers is left as it is and 1 comes back; else 0, and the report's fields stand in it:
@@ -78,7 +94,14 @@ pub fn negwishal_judge(bytes: &[u8], out: &mut [u64]) -> u32
 pub fn negwishal_judge_with(table: &[u8], bytes: &[u8], out: &mut [u64]) -> u32
     ensures { Exported (own_table table.now) bytes.now out.old result out.new }
 {
-    judge_by(Source::Own(table), bytes, out)
+    judge_by(Source::own(table), bytes, out)
+}
+
+// By what a firm has of a shared table.
+pub fn negwishal_judge_for(firm: u32, shared: &[u8], bytes: &[u8], out: &mut [u64]) -> u32
+    ensures { Exported (shared_table firm shared.now) bytes.now out.old result out.new }
+{
+    judge_by(Source::for_firm(firm, shared), bytes, out)
 }
 
 // Puts the dowels' numbers into a slice each, as C lends them.
@@ -156,7 +179,26 @@ pub fn negwishal_read_with(
         (places fields.old x.old y.old marks.old answer.old) result
         (places fields.new x.new y.new marks.new answer.new) }
 {
-    read_by(Source::Own(table), bytes, fields, x, y, marks, answer)
+    read_by(Source::own(table), bytes, fields, x, y, marks, answer)
+}
+
+// By what a firm has of a shared table.
+pub fn negwishal_read_for(
+    firm: u32,
+    shared: &[u8],
+    bytes: &[u8],
+    fields: &mut [i32],
+    x: &mut [i32],
+    y: &mut [i32],
+    marks: &mut [i32],
+    answer: &mut [u64],
+) -> u32
+    ensures { ReadOut (shared_table firm shared.now) bytes.now
+        (places fields.old x.old y.old marks.old answer.old) result
+        (places fields.new x.new y.new marks.new answer.new) }
+{
+    let table = Source::for_firm(firm, shared);
+    read_by(table, bytes, fields, x, y, marks, answer)
 }
 
 // Writes a record by a table from its numbers, which stand in `fields`, `x` and `y` as the reader hands them out, but that `x` and `y` have a
@@ -215,5 +257,23 @@ pub fn negwishal_write_with(
     ensures { WroteOut (own_table table.now) fields.now x.now y.now buffer.old answer.old
         result buffer.new answer.new }
 {
-    write_by(Source::Own(table), fields, x, y, marks, buffer, answer)
+    write_by(Source::own(table), fields, x, y, marks, buffer, answer)
+}
+
+// By what a firm has of a shared table.
+pub fn negwishal_write_for(
+    firm: u32,
+    shared: &[u8],
+    fields: &[i32],
+    x: &[i32],
+    y: &[i32],
+    marks: &[i32],
+    buffer: &mut [u8],
+    answer: &mut [u64],
+) -> u32
+    ensures { WroteOut (shared_table firm shared.now) fields.now x.now y.now buffer.old answer.old
+        result buffer.new answer.new }
+{
+    let table = Source::for_firm(firm, shared);
+    write_by(table, fields, x, y, marks, buffer, answer)
 }

@@ -3,7 +3,7 @@
 #![tactic(auto)]
 
 ghost use Rattle.std.specs.Prelude.{◌≡◌};
-ghost use Rattle.tables.specs.Table.{printed, own_table, table_number};
+ghost use Rattle.tables.specs.Table.{printed, own_table, shared_table, table_number};
 ghost use Rattle.negwishal.specs.Export.{Exported};
 ghost use Rattle.negwishal.specs.Exchange.{places, ReadOut, WroteOut};
 ghost use Rattle.root_entries.specs.Export.{BracketOut, RootOut};
@@ -14,6 +14,14 @@ pub extern "C" fn negwishal_load(table: &[u8]) -> u32
     ensures { result ≡ table_number (own_table table.now) }
 {
     negwishal::negwishal_load(table)
+}
+
+// Loads what a firm has of a shared table.
+#[unsafe(no_mangle)]
+pub extern "C" fn negwishal_load_for(firm: u32, shared: &[u8]) -> u32
+    ensures { result ≡ table_number (shared_table firm shared.now) }
+{
+    negwishal::negwishal_load_for(firm, shared)
 }
 
 // Judges a record by the printed table.
@@ -30,6 +38,19 @@ pub extern "C" fn negwishal_judge_with(table: &[u8], bytes: &[u8], out: &mut [u6
     ensures { Exported (own_table table.now) bytes.now out.old result out.new }
 {
     negwishal::negwishal_judge_with(table, bytes, out)
+}
+
+// Judges a record by what a firm has of a shared table.
+#[unsafe(no_mangle)]
+pub extern "C" fn negwishal_judge_for(
+    firm: u32,
+    shared: &[u8],
+    bytes: &[u8],
+    out: &mut [u64],
+) -> u32
+    ensures { Exported (shared_table firm shared.now) bytes.now out.old result out.new }
+{
+    negwishal::negwishal_judge_for(firm, shared, bytes, out)
 }
 
 // Reads a record's values by the printed table.
@@ -67,6 +88,25 @@ pub extern "C" fn negwishal_read_with(
     negwishal::negwishal_read_with(table, bytes, fields, x, y, marks, answer)
 }
 
+// Reads a record's values by what a firm has of a shared table.
+#[unsafe(no_mangle)]
+pub extern "C" fn negwishal_read_for(
+    firm: u32,
+    shared: &[u8],
+    bytes: &[u8],
+    fields: &mut [i32],
+    x: &mut [i32],
+    y: &mut [i32],
+    marks: &mut [i32],
+    answer: &mut [u64],
+) -> u32
+    ensures { ReadOut (shared_table firm shared.now) bytes.now
+        (places fields.old x.old y.old marks.old answer.old) result
+        (places fields.new x.new y.new marks.new answer.new) }
+{
+    negwishal::negwishal_read_for(firm, shared, bytes, fields, x, y, marks, answer)
+}
+
 // Writes a record from its numbers by the printed table.
 #[unsafe(no_mangle)]
 pub extern "C" fn negwishal_write(
@@ -98,6 +138,24 @@ pub extern "C" fn negwishal_write_with(
         result buffer.new answer.new }
 {
     negwishal::negwishal_write_with(table, fields, x, y, marks, buffer, answer)
+}
+
+// Writes a record from its numbers by what a firm has of a shared table.
+#[unsafe(no_mangle)]
+pub extern "C" fn negwishal_write_for(
+    firm: u32,
+    shared: &[u8],
+    fields: &[i32],
+    x: &[i32],
+    y: &[i32],
+    marks: &[i32],
+    buffer: &mut [u8],
+    answer: &mut [u64],
+) -> u32
+    ensures { WroteOut (shared_table firm shared.now) fields.now x.now y.now buffer.old answer.old
+        result buffer.new answer.new }
+{
+    negwishal::negwishal_write_for(firm, shared, fields, x, y, marks, buffer, answer)
 }
 
 // The starting bracket of a number's whole square root.

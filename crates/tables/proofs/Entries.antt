@@ -1,4 +1,4 @@
--- Laws of a table's entries: the next one of a stretch of bytes, and what is found at a code.
+-- Laws of entries: the next one of a stretch of bytes, and what is found at a code.
 use Prim.Native.Nat.{ℕ, suc, ◌+◌, ◌/◌, ◌≤◌, ◌<◌}
 use Rattle.std.specs.Simd.{first_chunks}
 use native.Mathlib.Omega.{arith}
@@ -13,7 +13,7 @@ use Rattle.codes.specs.Tables.{lookup}
 use Rattle.tables.specs.declared.entry.Entry.{Entry}
 use lib.Seq.{drop-cons}
 use Rattle.std.proofs.Math.ListN.{drop_of_length-le}
-use Rattle.tables.specs.Table.{entry_within, rise, entry_at, entries_in, class_of, line_of}
+use Rattle.tables.specs.Entries.{entry_within, rise, entry_at, entries_in, class_of, line_of}
 
 -- four bytes to each entry
 chunks : (s : List ℕ) → map (λ (b : List ℕ). entry_at b 0) (first_chunks 4 (length s / 4) s) ≡ entries_in s

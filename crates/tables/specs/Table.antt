@@ -1,19 +1,20 @@
--- The table by which the classes of a record are read: the printed one, or a firm's own (02, A4), which is handed in as bytes, here the list of
--- them.
-use Rattle.std.specs.Prelude.{ℕ, ◌%◌, ◌≡◌, Bool, true, cond, not, ◌&&◌, ◌||◌, List, [], ◌∷◌, ◌++◌, map, ltb, leb, eqb, pos, length, drop, Option}
-use Rattle.numbers.specs.Fields.{Width, size, place, field, field_bytes}
-use Rattle.numbers.specs.Fields.Width.{U8, U16}
+-- The table by which the classes of a record are read: the printed one, or a firm's, which is handed in as bytes, here the list of them: its own (02,
+-- A4), or its stretch of one that two firms share (A6).
+use Rattle.std.specs.Prelude.{ℕ, ◌-◌, ◌≡◌, Bool, true, cond, not, ◌||◌, List, [], ◌∷◌, ◌++◌, map, eqb, pos, length, take, Option}
+use Rattle.numbers.specs.Numbers.{u16_bytes}
+use Rattle.numbers.specs.Fields.{field_bytes}
 use Rattle.codes.specs.declared.Kind.{Kind}
 use Rattle.codes.specs.declared.Kind.TheVariants.{Softwood, Hardwood}
-use Rattle.codes.specs.Tables.{Line, line, softwood, hardwood, printed_classes, is_known, wood_in}
-use Rattle.tables.specs.Classes.{class_in, Sound}
 use Rattle.codes.specs.declared.Wood.{Wood}
-use Rattle.chain.specs.Chain.{chained}
-use Rattle.chain.specs.declared.Width.TheVariants.{Two}
+use Rattle.codes.specs.Tables.{Line, printed_classes, is_known, wood_in}
 use Rattle.tables.specs.Tests.{Test, test, first_holding, numbered}
+use Rattle.tables.specs.Classes.{class_in, Sound}
 use Rattle.tables.specs.declared.entry.Entry.{Entry}
+use Rattle.tables.specs.Entries.{entry_fields, entry_at, entries_in, refusal15, line_of}
+use Rattle.tables.specs.Pairs.{front_size, refusal14, stretch_of}
+use Rattle.tables.specs.Told.{number_of}
 use Rattle.tables.specs.declared.Source.{Source}
-use Rattle.tables.specs.declared.Source.TheVariants.{Printed, Own}
+use Rattle.tables.specs.declared.Source.TheVariants.{Printed, Entries, TurnedAway}
 
 -- ---- what a judgement takes: the tests by which the table is turned away, before every other test; and a line for each class
 pub record Table : Type 0 where
@@ -38,69 +39,35 @@ Loaded t = table_number t ≡ 0
 abbrev pub printed : Table
 printed = record { tests = []; classes = printed_classes }
 
--- ---- a firm's table: 'u16 count of pairs, 1; one pair of u16, offset 6 and length; then entries of 4 bytes'
-abbrev pub front_fields : List Width
-front_fields = U16 ∷ U16 ∷ U16 ∷ []
+-- a table of entries, by 15
+abbrev pub entries_table : List Entry → Table
+entries_table es = record { tests = test 15 (refusal15 es) ∷ []; classes = map line_of es }
 
-abbrev pub pair_count : List ℕ → ℕ
-pair_count b = field front_fields 0 b 0
+-- one that is turned away before it comes to its entries has none
+abbrev pub turned_away : ℕ → Table
+turned_away number = record { tests = test number true ∷ []; classes = [] }
 
-abbrev pub entries_length : List ℕ → ℕ
-entries_length b = field front_fields 2 b 0
+-- ---- in bytes: 14 is 'tested first', and then the stretch of pair k is all that counts
+abbrev pub stretch_table : ℕ → ℕ → List ℕ → Table
+stretch_table pairs k b = cond (refusal14 pairs b) (turned_away 14) (entries_table (entries_in (stretch_of k b)))
 
--- 'code u8 from 1, kind u8 (0 softwood, 1 hardwood), density u16 from 290 to 1,100', in kg/m³ as the printed densities
-abbrev pub entry_fields : List Width
-entry_fields = U8 ∷ U8 ∷ U16 ∷ []
-
--- the entry whose first byte is byte i
-abbrev pub entry_at : List ℕ → ℕ → Entry
-entry_at b i = record { code = field entry_fields 0 b i; kind = field entry_fields 1 b i; density = field entry_fields 2 b i }
-
--- the entries of a stretch of bytes, four to each
-unfoldable pub entries_in : List ℕ → List Entry
-entries_in [] = []
-entries_in (a ∷ []) = []
-entries_in (a ∷ b ∷ []) = []
-entries_in (a ∷ b ∷ c ∷ []) = []
-entries_in (a ∷ b ∷ c ∷ d ∷ more) = entry_at (a ∷ b ∷ c ∷ d ∷ []) 0 ∷ entries_in more
-
--- a table's entries: after the pair, up to its end
-abbrev pub entries_of : List ℕ → List Entry
-entries_of b = entries_in (drop (size front_fields) b)
-
--- '14, fewer than 6 bytes, count not 1, pair against this layout or not up to the table's end, or a length that is 0 or no multiple of 4':
--- one pair, at byte 2; its part starts at byte 6, is not empty and ends where the table does
-unfoldable pub refusal14 : List ℕ → Bool
-refusal14 b =
-    ltb (length b) (size front_fields) || not (eqb (pair_count b) 1) || not (chained Two b (place front_fields 1) (size front_fields) 1)
-    || not (eqb (entries_length b % size entry_fields) 0)
-
--- '15, an entry outside its limits or a code not above the one before'; a code is a byte, and 'from 1' says that the first is above 0
-unfoldable pub entry_within : Entry → Bool
-entry_within e = leb e.code 255 && leb e.kind 1 && leb 290 e.density && leb e.density 1100
-
-unfoldable pub rise : ℕ → List Entry → Bool
-rise before [] = true
-rise before (e ∷ more) = entry_within e && ltb before e.code && rise e.code more
-
-unfoldable pub refusal15 : List ℕ → Bool
-refusal15 b = not (rise 0 (entries_of b))
-
--- what an entry says: kind 0 softwood, 1 hardwood
-abbrev pub class_of : Entry → Option Wood
-class_of e = cond (eqb e.kind 0) (softwood e.density) (hardwood e.density)
-
-abbrev pub line_of : Entry → Line (Option Wood)
-line_of e = line e.code (class_of e)
-
--- 14 'tested first'
+-- A4, a firm's own: 'u16 count of pairs, 1; one pair'
 abbrev pub own_table : List ℕ → Table
-own_table b = record { tests = test 14 (refusal14 b) ∷ test 15 (refusal15 b) ∷ []; classes = map line_of (entries_of b) }
+own_table b = stretch_table 1 0 b
 
--- ---- the table that a call names, with the bytes that it hands in for it: 'It replaces the printed table'
+-- A6, 'a u16 count, 2, then two pairs'. 'A call says for which firm it works and uses that firm's stretch only': firm 1 the first, firm 2 the
+-- second. '16, the firm number is neither 1 nor 2, before anything else'
+unfoldable pub refusal16 : ℕ → Bool
+refusal16 firm = not (eqb firm 1 || eqb firm 2)
+
+abbrev pub shared_table : ℕ → List ℕ → Table
+shared_table firm b = cond (refusal16 firm) (turned_away 16) (stretch_table 2 (firm - 1) b)
+
+-- ---- the table that a call names: 'It replaces the printed table'
 abbrev pub table_of : Source → Table
 table_of Printed = printed
-table_of (Own b) = own_table b.now
+table_of (Entries es) = entries_table (map (λ (bytes : List ℕ). entry_at bytes 0) es.now)
+table_of (TurnedAway r) = turned_away (number_of r)
 
 -- what laws about any table ask of it: a refusal of its own is no 0, and where it loads its classes are sound. So is every table that a call
 -- names (`right`, proofs/Loading).
@@ -108,7 +75,12 @@ pub record Right (t : Table) : Type 0 where
   pub no_zero : numbered t.tests ≡ true
   pub sound : Loaded t → Sound t.classes
 
--- ---- a table's classes in this layout
+-- ---- a table as a firm's own bytes
+-- of a stretch of entries: 01 00 06 00, the length, the stretch
+abbrev pub own_bytes : List ℕ → List ℕ
+own_bytes stretch = 1 ∷ 0 ∷ 6 ∷ 0 ∷ u16_bytes (length stretch) ++ stretch
+
+-- of classes
 abbrev pub kind_code : Kind → ℕ
 kind_code Softwood = 0
 kind_code Hardwood = 1
@@ -122,14 +94,24 @@ abbrev pub lines_bytes : List (Line (Option Wood)) → List ℕ
 lines_bytes [] = []
 lines_bytes (l ∷ ls) = line_bytes l ++ lines_bytes ls
 
-abbrev pub table_bytes : List (Line (Option Wood)) → List ℕ
-table_bytes ls = field_bytes front_fields (pos 1 ∷ pos (size front_fields) ∷ pos (length (lines_bytes ls)) ∷ []) ++ lines_bytes ls
-
 -- 'The printed table, written in this layout'
+abbrev pub printed_bytes : List ℕ
+printed_bytes = own_bytes (lines_bytes printed_classes)
+
 abbrev pub printed_as_own : Table
-printed_as_own = own_table (table_bytes printed_classes)
+printed_as_own = own_table printed_bytes
+
+-- A6: 'A4's table of the same entries' as those of a firm in a shared table
+abbrev pub alone_bytes : ℕ → List ℕ → List ℕ
+alone_bytes firm b = own_bytes (stretch_of (firm - 1) b)
 
 -- ---- tables that are turned away alike and have the same classes
 pub record Alike (t u : Table) : Type 0 where
   pub number : table_number t ≡ table_number u
   pub classes : t.classes ≡ u.classes
+
+-- ---- shared tables that differ in the other firm's stretch at most: 'With the pairs fixed', of one length, and with the same stretch of this firm
+pub record SameFor (firm : ℕ) (a b : List ℕ) : Type 0 where
+  pub size : length a ≡ length b
+  pub front : take (front_size 2) a ≡ take (front_size 2) b
+  pub stretch : stretch_of (firm - 1) a ≡ stretch_of (firm - 1) b

@@ -1,6 +1,6 @@
-// The entries of a firm's own table.
-ghost use Rattle.std.specs.Prelude.{◌≡◌, Some, map, drop};
-ghost use Rattle.tables.specs.Table.{entry_within, class_of, entry_at, entries_of};
+// The entries of a firm's classes.
+ghost use Rattle.std.specs.Prelude.{◌≡◌, Some, map};
+ghost use Rattle.tables.specs.Entries.{entry_within, class_of, entry_at, entries_in};
 
 use codes::{Kind, Wood};
 
@@ -22,7 +22,7 @@ pub(crate) struct Entry {
 }
 
 impl Entry {
-    #[tactic(auto, unfolding(crate::specs::Table::entry_within))]
+    #[tactic(auto, unfolding(crate::specs::Entries::entry_within))]
     pub(crate) fn is_within(self) -> bool
         ensures { result ≡ entry_within self }
     {
@@ -48,7 +48,7 @@ impl From<Entry> for Wood {
 
 // An entry from its bytes.
 impl From<[u8; ENTRY_BYTES]> for Entry {
-    ghost use Rattle.tables.specs.Table.{entry_at};
+    ghost use Rattle.tables.specs.Entries.{entry_at};
 
     ghost from_gives = { λ bytes e. e ≡ entry_at bytes 0 };
 
@@ -62,18 +62,11 @@ impl From<[u8; ENTRY_BYTES]> for Entry {
     }
 }
 
-// What of a table comes after the pair, up to its end.
-fn after_pair(table: &[u8]) -> &[u8]
-    ensures { result.now ≡ drop 6 table.now }
-{
-    table.get(crate::FRONT_BYTES..).unwrap_or(&[])
-}
-
-// The entries of a table, each in its four bytes.
+// The entries of a stretch, each in its four bytes.
 #[tactic(auto, using(crate::proofs::Entries::in_fours))]
-pub(crate) fn entries(table: &[u8]) -> &[[u8; ENTRY_BYTES]]
-    ensures { map (λ bytes. entry_at bytes 0) result.now ≡ entries_of table.now }
+pub(crate) fn entries_in(stretch: &[u8]) -> &[[u8; ENTRY_BYTES]]
+    ensures { map (λ bytes. entry_at bytes 0) result.now ≡ entries_in stretch.now }
 {
-    let (entries, _) = after_pair(table).as_chunks();
+    let (entries, _) = stretch.as_chunks();
     entries
 }

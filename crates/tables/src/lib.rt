@@ -1,35 +1,26 @@
-// A table of classes: the printed one, or a firm's own, which is lent as bytes (02, A4). A firm's table is loaded, or turned away by 14 or 15,
-// and asked for a code.
+// A table of classes: the printed one, or a firm's, which is lent as bytes: its own (02, A4), or its stretch of one that two firms share (A6). A firm's
+// table is loaded, or turned away by 14, 15 or 16, and asked for a code.
 #![tactic(auto)]
 
 mod entry;
+mod pairs;
 
-ghost use Rattle.std.specs.Prelude.{◌≡◌, not};
+ghost use Rattle.std.specs.Prelude.{◌≡◌, ◌≤◌, ◌<◌, map};
+ghost use Rattle.tables.specs.Entries.{entry_at, rise};
 ghost use Rattle.tables.specs.Classes.{class_in};
-ghost use Rattle.tables.specs.Table.{entries_of, rise, refusal14, own_table, table_of, table_number, is_class, wood_of};
+ghost use Rattle.tables.specs.Table.{entries_table, stretch_table, own_table, shared_table, table_of, table_number, is_class, wood_of};
 ghost use Rattle.tables.specs.Told.{number_of, told};
 
-use chain::Width;
 use codes::{NO_WOOD, Wood};
-use entry::{ENTRY_BYTES, Entry, entries};
-use numbers::u16_at;
+use entry::{ENTRY_BYTES, Entry};
+use pairs::{OWN_PAIRS, SHARED_PAIRS};
 
-// How many pairs a table has, where it stands, and where the entries start: right after the pair.
-const PAIRS: usize = 1;
-
-const COUNT_AT: usize = 0;
-
-const PAIR_AT: usize = 2;
-
-const LENGTH_AT: usize = 4;
-
-const FRONT_BYTES: usize = 6;
-
-// Why a firm's own table is turned away, by its number.
+// Why a firm's table is turned away, by its number.
 #[derive(Clone, Copy, Debug, PartialEq, Eq)]
 pub enum Refusal {
     OtherLayout = 14,
     EntryOutside = 15,
+    OtherFirm = 16,
 }
 
 impl Refusal {
@@ -41,12 +32,12 @@ impl Refusal {
 }
 
 // Whether each entry is within its limits, with a code above the one before.
-#[tactic(auto, using(crate::proofs::Entries::rises, crate::proofs::Entries::risen), unfolding(crate::specs::Table::rise))]
-fn all_rise(table: &[u8]) -> bool
-    ensures { result ≡ rise 0 (entries_of table.now) }
+#[tactic(auto, using(crate::proofs::Entries::rises, crate::proofs::Entries::risen), unfolding(crate::specs::Entries::rise))]
+fn all_rise(entries: &[[u8; ENTRY_BYTES]]) -> bool
+    ensures { result ≡ rise 0 (map (λ bytes. entry_at bytes 0) entries.now) }
 {
     let mut before = 0;
-    for bytes in entries(table) {
+    for bytes in entries {
         let e = Entry::from(*bytes);
         if !(e.is_within() & (before < e.code)) {
             return false;
@@ -56,67 +47,76 @@ fn all_rise(table: &[u8]) -> bool
     true
 }
 
-// Whether one pair lays whole entries up to the table's end.
-#[tactic(auto, unfolding(crate::specs::Table::refusal14))]
-fn is_laid(table: &[u8]) -> bool
-    ensures { result ≡ not (refusal14 table.now) }
+// What entries have at a code.
+fn class_in(entries: &[[u8; ENTRY_BYTES]], code: u8) -> Option<Wood>
+    ensures { result ≡ class_in (entries_table (map (λ bytes. entry_at bytes 0) entries.now)).classes code }
 {
-    if table.len() < FRONT_BYTES {
-        return false;
-    }
-    let count = u16_at(table, COUNT_AT) as usize;
-    if count != PAIRS {
-        return false;
-    }
-    let mut bounds = [0usize; PAIRS + 1];
-    if !chain::read(table, Width::Two, PAIR_AT, FRONT_BYTES, PAIRS, &mut bounds) {
-        return false;
-    }
-    let bytes = u16_at(table, LENGTH_AT) as usize;
-    bytes.is_multiple_of(ENTRY_BYTES)
-}
-
-// Loads a firm's own table, or turns it away.
-#[tactic(auto, unfolding(crate::specs::Tests::first_holding, crate::specs::Table::refusal15))]
-pub fn load(table: &[u8]) -> Result<(), Refusal>
-    ensures { told result ≡ table_number (own_table table.now) }
-{
-    if !is_laid(table) {
-        return Err(Refusal::OtherLayout);
-    }
-    if !all_rise(table) {
-        return Err(Refusal::EntryOutside);
-    }
-    Ok(())
-}
-
-// What a firm's own table has at a code.
-fn own_class(table: &[u8], code: u8) -> Option<Wood>
-    ensures { result ≡ class_in (own_table table.now).classes code }
-{
-    entries(table)
+    entries
         .iter()
         .map(|bytes| Entry::from(*bytes))
         .find(|e| code == e.code)
         .map(Wood::from)
 }
 
-// Which table a call uses: the printed one, or the firm's own. A value that callers hold, with methods, and no closure.
+// Which table a call uses: the printed one, or one of a firm's entries, each in its four bytes, with nothing else of the bytes in which they were
+// handed in; or that these are turned away before it comes to entries. No other crate can make the last two: they come from bytes, by `own` and
+// `for_firm`. A value that callers hold, with methods, and no closure.
 #[derive(Clone, Copy)]
 pub enum Source<'a> {
     Printed,
-    Own(&'a [u8]),
+    #[non_exhaustive]
+    Entries(&'a [[u8; ENTRY_BYTES]]),
+    #[non_exhaustive]
+    TurnedAway(Refusal),
 }
 
-impl Source<'_> {
+impl<'a> Source<'a> {
+    // By the stretch of pair k alone, of a table with so many pairs.
+    #[tactic(auto, using(crate::proofs::Stretches::pair_inside, crate::proofs::Stretches::part_inside))]
+    fn stretch(table: &'a [u8], pairs: usize, k: usize) -> Source<'a>
+        requires { (pairs ≤ 2) × (k < pairs) }
+        ensures { table_of result ≡ stretch_table pairs k table.now }
+    {
+        if !pairs::are_laid(table, pairs) {
+            return Source::TurnedAway(Refusal::OtherLayout);
+        }
+        Source::Entries(entry::entries_in(pairs::stretch_of(table, k)))
+    }
+
+    // A firm's own table, which may be any bytes.
+    pub fn own(table: &'a [u8]) -> Source<'a>
+        ensures { table_of result ≡ own_table table.now }
+    {
+        Source::stretch(table, OWN_PAIRS, 0)
+    }
+
+    // What a firm has of a table that firms 1 and 2 share, any number as firm and any bytes as table: its stretch, and nothing of the other's.
+    #[tactic(auto, unfolding(crate::specs::Table::refusal16))]
+    pub fn for_firm(firm: u32, table: &'a [u8]) -> Source<'a>
+        ensures { table_of result ≡ shared_table firm table.now }
+    {
+        match firm {
+            1 => Source::stretch(table, SHARED_PAIRS, 0),
+            2 => Source::stretch(table, SHARED_PAIRS, 1),
+            _ => Source::TurnedAway(Refusal::OtherFirm),
+        }
+    }
+
     // Why the table is turned away, if it is.
-    #[tactic(auto, unfolding(crate::specs::Tests::first_holding))]
+    #[tactic(auto, unfolding(crate::specs::Tests::first_holding, crate::specs::Entries::refusal15))]
     pub fn load(self) -> Result<(), Refusal>
         ensures { told result ≡ table_number (table_of self.entry) }
     {
         match self {
             Source::Printed => Ok(()),
-            Source::Own(table) => load(table),
+            Source::Entries(entries) => {
+                if all_rise(entries) {
+                    Ok(())
+                } else {
+                    Err(Refusal::EntryOutside)
+                }
+            }
+            Source::TurnedAway(refusal) => Err(refusal),
         }
     }
 
@@ -127,7 +127,8 @@ impl Source<'_> {
     {
         match self {
             Source::Printed => codes::class_of(code),
-            Source::Own(table) => own_class(table, code),
+            Source::Entries(entries) => class_in(entries, code),
+            Source::TurnedAway(_) => None,
         }
     }
 

@@ -6,9 +6,8 @@ use mathlib.Core.List.{List, [], ◌∷◌, ◌++◌}
 use lib.Dec.{ltb}
 use lib.IntN.{ℤ}
 use lib.ListN.{length}
-use Rattle.codes.specs.Tables.{printed_classes}
 use Rattle.tables.specs.Tests.{Test, test}
-use Rattle.tables.specs.Table.{Table, Right, Alike, printed, table_bytes, printed_as_own}
+use Rattle.tables.specs.Table.{Table, Right, Alike, printed, printed_bytes, printed_as_own}
 use Rattle.tables.proofs.Loading.{own_right, printed_right}
 use Rattle.tables.proofs.Same.{printed_alike}
 use Rattle.joint.specs.Layout.{bytes_of}
@@ -37,7 +36,7 @@ module _ (t u : Table) (p : Right t) (q : Right u) (alike : Alike t u) (f : Fiel
 -- ---- the printed table as bytes
 module _ (f : Fields) (x y : List ℤ) where
   pub printed_written : (room : ℕ) → written_of printed_as_own f x y room ≡ written_of printed f x y room
-  printed_written = same_written printed_as_own printed (own_right (table_bytes printed_classes)) printed_right printed_alike f x y
+  printed_written = same_written printed_as_own printed (own_right printed_bytes) printed_right printed_alike f x y
 
   pub printed_buffer : (buffer : List ℕ) → buffer_after printed_as_own f x y buffer ≡ buffer_after printed f x y buffer
-  printed_buffer = same_buffer printed_as_own printed (own_right (table_bytes printed_classes)) printed_right printed_alike f x y
+  printed_buffer = same_buffer printed_as_own printed (own_right printed_bytes) printed_right printed_alike f x y
