@@ -1686,10 +1686,10 @@ def table_number(table):
     return Model().load(table) if table is not None else 0
 
 
-def table_before_slices(entry):
+def refused_before_slices(entry, number_of):
     """A table that does not load is answered where another slice is too short."""
     def call(self, *lent):
-        number, answer = table_number(self.handed), lent[5]
+        number, answer = number_of(self), lent[-1]
         code = entry(self, *lent)
         if code == 1 and number and len(answer) >= 2:
             answer[:2] = [number, 0]
@@ -1699,7 +1699,8 @@ def table_before_slices(entry):
 
 
 for _what, _entry in (("reading", Model.read_values), ("writing", Model.write)):
-    mislooks("14 before a slice that is too short", (_what,), **{ENTRY[_what]: table_before_slices(_entry)})
+    mislooks("14 before a slice that is too short", (_what,), **{
+        ENTRY[_what]: refused_before_slices(_entry, lambda self: table_number(self.handed))})
     mislooks("the table's number for the code", (_what,), **{
         ENTRY[_what]: lambda self, *lent, entry=_entry: entry(self, *lent) or table_number(self.handed)})
     mislooks("code 1 where the table does not load", (_what,), **{
@@ -2013,20 +2014,8 @@ def number_for(self):
     return one.load(self.handed)
 
 
-def firm_before_slices(entry):
-    """A table that does not load is answered where another slice is too short."""
-    def call(self, *lent):
-        number, answer = number_for(self), lent[-1]
-        code = entry(self, *lent)
-        if code == 1 and number and len(answer) >= 2:
-            answer[:2] = [number, 0]
-            return 0
-        return code
-    return call
-
-
 for _what, _entry in (("reading", Model.read_values), ("writing", Model.write)):
-    misfirms("16 before a slice that is too short", (_what,), **{ENTRY[_what]: firm_before_slices(_entry)})
+    misfirms("16 before a slice that is too short", (_what,), **{ENTRY[_what]: refused_before_slices(_entry, number_for)})
     misfirms("the number for the code", (_what,), **{
         ENTRY[_what]: lambda self, *lent, entry=_entry: entry(self, *lent) or number_for(self)})
     misfirms("code 1 for 16", (_what,), **{
