@@ -13,10 +13,10 @@ use Rattle.codes.specs.Tables.{lookup}
 use Rattle.tables.specs.declared.entry.Entry.{Entry}
 use lib.Seq.{drop-cons}
 use Rattle.std.proofs.Math.ListN.{drop_of_length-le}
-use Rattle.tables.specs.Entries.{entry_within, rise, entry_at, entries_in, class_of, line_of}
+use Rattle.tables.specs.Entries.{entry_within, rise, entry_at, entries_in, entries_of, class_of, line_of}
 
 -- four bytes to each entry
-chunks : (s : List ℕ) → map (λ (b : List ℕ). entry_at b 0) (first_chunks 4 (length s / 4) s) ≡ entries_in s
+chunks : (s : List ℕ) → entries_of (first_chunks 4 (length s / 4) s) ≡ entries_in s
 unfolding entries_in
 chunks [] = refl
 chunks (a ∷ []) = refl
@@ -26,20 +26,20 @@ chunks (a ∷ b ∷ c ∷ d ∷ s) =
     let n : length (a ∷ b ∷ c ∷ d ∷ s) / 4 ≡ suc (length s / 4) = omega arith in
     rw n (ap (λ (l : List Entry). entry_at (a ∷ b ∷ c ∷ d ∷ []) 0 ∷ l) (chunks s))
 
-pub in_fours : (s : List ℕ) {l : List (List ℕ)} → l ≡ first_chunks 4 (length s / 4) s → map (λ (b : List ℕ). entry_at b 0) l ≡ entries_in s
-in_fours s e = ap (map (λ (b : List ℕ). entry_at b 0)) e ∙ chunks s
+pub in_fours : (s : List ℕ) {l : List (List ℕ)} → l ≡ first_chunks 4 (length s / 4) s → entries_of l ≡ entries_in s
+in_fours s e = ap entries_of e ∙ chunks s
 
 -- where the entries from number i on rise
 pub rises : (l : List (List ℕ)) (before i : ℕ) → i < length l
-    → rise before (map (λ (b : List ℕ). entry_at b 0) (drop i l))
+    → rise before (entries_of (drop i l))
     ≡ (entry_within (entry_at (get_or l i []) 0) && ltb before (entry_at (get_or l i []) 0).code
-    && rise (entry_at (get_or l i []) 0).code (map (λ (b : List ℕ). entry_at b 0) (drop (i + 1) l)))
+    && rise (entry_at (get_or l i []) 0).code (entries_of (drop (i + 1) l)))
 unfolding rise
-rises l before i h = let e : i + 1 ≡ suc i = omega arith in rw e (ap (λ (m : List (List ℕ)). rise before (map (λ (b : List ℕ). entry_at b 0) m)) (drop-cons l i [] h))
+rises l before i h = let e : i + 1 ≡ suc i = omega arith in rw e (ap (λ (m : List (List ℕ)). rise before (entries_of m)) (drop-cons l i [] h))
 
-pub risen : (l : List (List ℕ)) (before i : ℕ) → length l ≤ i → rise before (map (λ (b : List ℕ). entry_at b 0) (drop i l)) ≡ true
+pub risen : (l : List (List ℕ)) (before i : ℕ) → length l ≤ i → rise before (entries_of (drop i l)) ≡ true
 unfolding rise
-risen l before i h = ap (λ (m : List (List ℕ)). rise before (map (λ (b : List ℕ). entry_at b 0) m)) (drop_of_length-le l h)
+risen l before i h = ap (λ (m : List (List ℕ)). rise before (entries_of m)) (drop_of_length-le l h)
 
 -- the first entry of a code says what the table has there
 looked_up : (code : ℕ) (es : List Entry) → lookup None (map line_of es) code ≡ option_and_then class_of (find (λ e. eqb code e.code) es)

@@ -18,7 +18,7 @@ use Rattle.tables.specs.declared.Source.{Source}
 use Rattle.tables.specs.declared.Source.TheVariants.{Printed, Entries, TurnedAway}
 use Rattle.tables.specs.Told.{number_of}
 use Rattle.tables.specs.Tests.{first_holding, numbered}
-use Rattle.tables.specs.Entries.{entry_at, entries_in, entry_within, rise, refusal15, line_of}
+use Rattle.tables.specs.Entries.{entries_in, entries_of, entry_within, rise, refusal15, line_of}
 use Rattle.tables.specs.Pairs.{refusal14, stretch_of}
 use Rattle.tables.specs.Table.{Table, printed, entries_table, turned_away, stretch_table, own_table, refusal16, shared_table, table_of, table_number, Loaded, Right}
 
@@ -132,5 +132,5 @@ above_0 OtherFirm = omega arith
 
 pub right : (source : Source) → Right (table_of source)
 right Printed = printed_right
-right (Entries es) = entries_right (map (λ (bytes : List ℕ). entry_at bytes 0) es.now)
+right (Entries fours) = entries_right (entries_of fours.now)
 right (TurnedAway r) = turned_right (number_of r) (above_0 r)

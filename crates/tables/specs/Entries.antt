@@ -1,5 +1,5 @@
 -- The entries of a firm's classes (02, A4), in a stretch of bytes, here the list of them.
-use Rattle.std.specs.Prelude.{ℕ, Bool, true, cond, not, ◌&&◌, List, [], ◌∷◌, ltb, leb, eqb, Option}
+use Rattle.std.specs.Prelude.{ℕ, Bool, true, cond, not, ◌&&◌, List, [], ◌∷◌, map, ltb, leb, eqb, Option}
 use Rattle.numbers.specs.Fields.{Width, field}
 use Rattle.numbers.specs.Fields.Width.{U8, U16}
 use Rattle.codes.specs.declared.Wood.{Wood}
@@ -21,6 +21,10 @@ entries_in (a ∷ []) = []
 entries_in (a ∷ b ∷ []) = []
 entries_in (a ∷ b ∷ c ∷ []) = []
 entries_in (a ∷ b ∷ c ∷ d ∷ more) = entry_at (a ∷ b ∷ c ∷ d ∷ []) 0 ∷ entries_in more
+
+-- and of a stretch that is cut into these fours
+abbrev pub entries_of : List (List ℕ) → List Entry
+entries_of fours = map (λ (four : List ℕ). entry_at four 0) fours
 
 -- '15, an entry outside its limits or a code not above the one before'; a code is a byte, and 'from 1' says that the first is above 0
 unfoldable pub entry_within : Entry → Bool

@@ -10,7 +10,7 @@ use Rattle.codes.specs.Tables.{Line, printed_classes, is_known, wood_in}
 use Rattle.tables.specs.Tests.{Test, test, first_holding, numbered}
 use Rattle.tables.specs.Classes.{class_in, Sound}
 use Rattle.tables.specs.declared.entry.Entry.{Entry}
-use Rattle.tables.specs.Entries.{entry_fields, entry_at, entries_in, refusal15, line_of}
+use Rattle.tables.specs.Entries.{entry_fields, entries_in, entries_of, refusal15, line_of}
 use Rattle.tables.specs.Pairs.{front_size, refusal14, stretch_of}
 use Rattle.tables.specs.Told.{number_of}
 use Rattle.tables.specs.declared.Source.{Source}
@@ -66,7 +66,7 @@ shared_table firm b = cond (refusal16 firm) (turned_away 16) (stretch_table 2 (f
 -- ---- the table that a call names: 'It replaces the printed table'
 abbrev pub table_of : Source → Table
 table_of Printed = printed
-table_of (Entries es) = entries_table (map (λ (bytes : List ℕ). entry_at bytes 0) es.now)
+table_of (Entries fours) = entries_table (entries_of fours.now)
 table_of (TurnedAway r) = turned_away (number_of r)
 
 -- what laws about any table ask of it: a refusal of its own is no 0, and where it loads its classes are sound. So is every table that a call

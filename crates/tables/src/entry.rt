@@ -1,6 +1,6 @@
 // The entries of a firm's classes.
-ghost use Rattle.std.specs.Prelude.{◌≡◌, Some, map};
-ghost use Rattle.tables.specs.Entries.{entry_within, class_of, entry_at, entries_in};
+ghost use Rattle.std.specs.Prelude.{◌≡◌, Some};
+ghost use Rattle.tables.specs.Entries.{entry_within, class_of, entries_in, entries_of};
 
 use codes::{Kind, Wood};
 
@@ -65,7 +65,7 @@ impl From<[u8; ENTRY_BYTES]> for Entry {
 // The entries of a stretch, each in its four bytes.
 #[tactic(auto, using(crate::proofs::Entries::in_fours))]
 pub(crate) fn entries_in(stretch: &[u8]) -> &[[u8; ENTRY_BYTES]]
-    ensures { map (λ bytes. entry_at bytes 0) result.now ≡ entries_in stretch.now }
+    ensures { entries_of result.now ≡ entries_in stretch.now }
 {
     let (entries, _) = stretch.as_chunks();
     entries

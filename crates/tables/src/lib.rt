@@ -5,8 +5,8 @@
 mod entry;
 mod pairs;
 
-ghost use Rattle.std.specs.Prelude.{◌≡◌, ◌≤◌, ◌<◌, map};
-ghost use Rattle.tables.specs.Entries.{entry_at, rise};
+ghost use Rattle.std.specs.Prelude.{◌≡◌, ◌≤◌, ◌<◌};
+ghost use Rattle.tables.specs.Entries.{entries_of, rise};
 ghost use Rattle.tables.specs.Classes.{class_in};
 ghost use Rattle.tables.specs.Table.{entries_table, stretch_table, own_table, shared_table, table_of, table_number, is_class, wood_of};
 ghost use Rattle.tables.specs.Told.{number_of, told};
@@ -34,7 +34,7 @@ impl Refusal {
 // Whether each entry is within its limits, with a code above the one before.
 #[tactic(auto, using(crate::proofs::Entries::rises, crate::proofs::Entries::risen), unfolding(crate::specs::Entries::rise))]
 fn all_rise(entries: &[[u8; ENTRY_BYTES]]) -> bool
-    ensures { result ≡ rise 0 (map (λ bytes. entry_at bytes 0) entries.now) }
+    ensures { result ≡ rise 0 (entries_of entries.now) }
 {
     let mut before = 0;
     for bytes in entries {
@@ -49,7 +49,7 @@ fn all_rise(entries: &[[u8; ENTRY_BYTES]]) -> bool
 
 // What entries have at a code.
 fn class_in(entries: &[[u8; ENTRY_BYTES]], code: u8) -> Option<Wood>
-    ensures { result ≡ class_in (entries_table (map (λ bytes. entry_at bytes 0) entries.now)).classes code }
+    ensures { result ≡ class_in (entries_table (entries_of entries.now)).classes code }
 {
     entries
         .iter()
