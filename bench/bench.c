@@ -3,7 +3,10 @@
  * holds their answers to one another, and measures the stack.  bench [--builds OTHER OURS].. [FILE..]: the records in
  * the files are compared too, by every table; a file whose name ends in .tab is one table more, own and shared.  OTHER
  * and OURS are shared objects of two builds of the library: judging by the one is timed against judging by the other,
- * and their reports are compared; of several pairs each has the code in another place. */
+ * and their reports are compared; of several pairs each has the code in another place.  These two judge records of
+ * version 1 alone: an older build answers 2 for version 2.
+ *
+ * A 'version' is one of these three programs; the version that a record names is its 'record version'. */
 #define _GNU_SOURCE
 #include <dlfcn.h>
 #include <inttypes.h>
@@ -20,8 +23,9 @@
 #define BATCH_NS 4000000.0
 #define TIMED 7
 #define JOINTS 8 /* the timed ones, and one that is not timed */
-#define TABLED 7 /* joint B, timed by so many tables */
-#define THICK 2  /* joints that are timed with many thicknesses of member 1 */
+#define TABLED 7    /* joint B, timed by so many tables */
+#define VERSIONED 6 /* three joints, timed in record versions 1 and 2 */
+#define THICK 2     /* joints that are timed with many thicknesses of member 1 */
 #define THICKNESSES 100
 
 static const struct {
@@ -156,6 +160,8 @@ static void write_values(int version, const struct table *t, const struct values
     memset(w, 0x5a, sizeof *w);
     write_by(version, t, v, x_len, y_len, ENOUGH, w->buffer, room, w->answer);
 }
+
+static unsigned u16_at(const uint8_t *b) { return b[0] | (unsigned)b[1] << 8; }
 
 static void put16(struct record *r, unsigned v)
 {
@@ -375,6 +381,12 @@ static void write_tables(void)
     tables[BOTH_FAULTS].length++;
 }
 
+static void set_record_version(struct record *r, unsigned record_version)
+{
+    r->bytes[0] = (uint8_t)record_version;
+    r->bytes[1] = (uint8_t)(record_version >> 8);
+}
+
 /* The classes of members 1 and 2 of a record that write_record wrote. */
 static void set_classes(struct record *r, uint8_t class_1, uint8_t class_2)
 {
@@ -420,6 +432,28 @@ static void write_tabled(struct record r[TABLED], const struct record *b)
         r[k].name = row[k].name;
         r[k].table = k == 0 ? NULL : row[k].firm == 0 ? own : &shared[k];
         set_classes(&r[k], class_by(row[k].table), class_by(row[k].table));
+    }
+}
+
+/* The record in record version 2, or in 1 where it is in 2. */
+static void write_other_version(struct record *other, const struct record *r)
+{
+    *other = *r;
+    set_record_version(other, u16_at(r->bytes) == 2 ? 1 : 2);
+}
+
+/* Joint B, whose edges are not loaded, and two joints under a skew force: each in record version 1 and in 2. */
+static void write_versioned(struct record r[VERSIONED], const struct record *b, const struct record *four,
+                            const struct record *many)
+{
+    static const char *const name[VERSIONED] = {"joint B", "joint B, version 2",
+                                                "4, skew, crossed grains", "4, skew, version 2",
+                                                "64, skew, crossed grains", "64, skew, version 2"};
+    const struct record *joint[VERSIONED / 2] = {b, four, many};
+    for (int k = 0; k < VERSIONED; k++) {
+        r[k] = *joint[k / 2];
+        r[k].name = name[k];
+        set_record_version(&r[k], 1 + (unsigned)k % 2);
     }
 }
 
@@ -590,9 +624,10 @@ static int values_agree(const struct record *r)
     }
     if (v[0].answer[0] != 0)
         return good;
-    /* what was read is written, byte for byte where the parts stand in the order of their kinds */
+    /* what was read is written, in its version, byte for byte where the parts stand in the order of their kinds */
     int in_order = r->bytes[20] == 1 && r->bytes[62] == 2 && r->bytes[65] == 3;
     return good && w[0].answer[0] == 0 && w[0].answer[1] == r->length
+        && v[0].fields[0] == (int32_t)u16_at(r->bytes) && u16_at(w[0].buffer) == u16_at(r->bytes)
         && (!in_order || memcmp(w[0].buffer, r->bytes, r->length) == 0);
 }
 
@@ -665,8 +700,6 @@ struct alike {
 
 static struct alike alone(const struct table *t) { return (struct alike){1, {t}, 0}; }
 
-static unsigned u16_at(const uint8_t *b) { return b[0] | (unsigned)b[1] << 8; }
-
 static int is_whole(unsigned length) { return length != 0 && length % ENTRY == 0; }
 
 /* Whether a shared table is laid out as one. */
@@ -730,20 +763,27 @@ static void compare_written(const struct alike *a, const struct values *v, size_
     count(tally, first.answer[0], bad != 0);
 }
 
-/* Joint B's values with each place changed, with lists cut and with buffers of all lengths, written by tables alike. */
+/* Joint B's values in record versions that are known and not, with each place changed, with lists cut and with buffers
+ * of all lengths, written by tables alike. */
 static void compare_writers(const struct record *b, const struct alike *a, struct tally *tally)
 {
     static const int32_t other[] = {INT32_MIN, -1, 0, 1, 2, 3, 12, 31, 199, 257, 720, 4001, 65537, 100001, 1000001,
-                                    INT32_MAX, 200, 255, 456};
-    for (int at = 0; at < VALUES; at++)
-        for (size_t k = 0; k < sizeof other / sizeof other[0]; k++)
-            for (size_t cut = 0; cut < 3; cut++) {
-                struct values v = b->values;
-                v.fields[at] = other[k];
-                compare_written(a, &v, cut == 1 ? 3 : 4, cut == 2 ? 109 : 120, tally);
-            }
-    for (size_t room = 0; room <= 120; room++)
-        compare_written(a, &b->values, 4, room, tally);
+                                    INT32_MAX, 200, 255, 256, 258, 456, 65535, 65538};
+    static const int32_t record_version[] = {1, 2, 3, 258};
+    for (size_t n = 0; n < sizeof record_version / sizeof record_version[0]; n++) {
+        struct values v = b->values;
+        v.fields[0] = record_version[n];
+        for (size_t room = 0; room <= 120; room++)
+            compare_written(a, &v, 4, room, tally);
+        for (int at = 0; at < VALUES; at++)
+            for (size_t k = 0; k < sizeof other / sizeof other[0]; k++)
+                for (size_t cut = 0; cut < 3; cut++) {
+                    const int32_t before = v.fields[at];
+                    v.fields[at] = other[k];
+                    compare_written(a, &v, cut == 1 ? 3 : 4, cut == 2 ? 109 : 120, tally);
+                    v.fields[at] = before;
+                }
+    }
 }
 
 /* Whether each version does the same by each of the tables: judges, reads, and writes the record's values, to the last
@@ -783,7 +823,7 @@ static void compare_by(const struct alike *a, const struct record *r, int record
                 good = done_alike(&by, a) && good;
             }
             if (!good) {
-                printf("by the table '%s':\n", by.table->name);
+                printf("record version %u, by the table '%s':\n", u16_at(by.bytes), by.table->name);
                 print_reports(by.name, reports, good);
             }
             count(tally, reports[0][1], !good);
@@ -951,28 +991,196 @@ static void compare_short(const struct record *b, struct tally *tally)
     share(&shared[4], "14, firm 1", one, &tables[TRAILING], 1);
     share(&shared[5], "15, firm 1", &tables[DENSE], other, 1);
     by = *b;
-    for (size_t k = 0; k < sizeof tried / sizeof tried[0]; k++)
-        for (int slice = 0; slice <= SLICES; slice++)
-            for (int j = 0; j < JOBS; j++) {
-                uint32_t code = needed[j] >> slice & 1;
-                by.table = tried[k];
-                count(tally, code, !short_alike(j, &by, slice, code));
-            }
+    for (unsigned record_version = 1; record_version <= 2; record_version++) {
+        set_record_version(&by, record_version);
+        by.values.fields[0] = (int32_t)record_version;
+        for (size_t k = 0; k < sizeof tried / sizeof tried[0]; k++)
+            for (int slice = 0; slice <= SLICES; slice++)
+                for (int j = 0; j < JOBS; j++) {
+                    uint32_t code = needed[j] >> slice & 1;
+                    by.table = tried[k];
+                    count(tally, code, !short_alike(j, &by, slice, code));
+                }
+    }
 }
 
-/* The joints with many thicknesses. */
+/* The joints with many thicknesses, in both record versions. */
 static int compare_thick(const struct record thick[THICK][THICKNESSES])
 {
+    static struct record r;
     struct tally tally = {0, 0, 0};
     uint64_t reports[VERSIONS][8];
     for (int k = 0; k < THICK; k++)
-        for (int i = 0; i < THICKNESSES; i++) {
-            int good = judged_alike(&thick[k][i], reports);
+        for (int i = 0; i < 2 * THICKNESSES; i++) {
+            r = thick[k][i / 2];
+            set_record_version(&r, 1 + (unsigned)i % 2);
+            int good = judged_alike(&r, reports);
             if (!good)
                 print_reports("another thickness", reports, good);
             count(&tally, reports[0][1], !good);
         }
     return print_tally(&tally, "joints of other thicknesses judged, read and written again");
+}
+
+/* ---- versions of the record, and edges */
+
+/* Joint B in each of the 65,536 versions; in known ones and others that have these bytes or neighbour them also with
+ * what is refused before the version and after it. */
+static int compare_record_versions(const struct record *b)
+{
+    static const unsigned some[] = {0, 1, 2, 3, 255, 256, 257, 258, 512, 513, 65535};
+    static struct record r;
+    static struct table nobody;
+    struct tally tally = {0, 0, 0};
+    uint64_t reports[VERSIONS][8];
+    r = *b;
+    for (unsigned record_version = 0; record_version < 65536; record_version++) {
+        set_record_version(&r, record_version);
+        int good = judged_alike(&r, reports);
+        count(&tally, reports[0][1], !good || reports[0][1] != (record_version == 1 || record_version == 2 ? 0 : 2));
+    }
+    share(&nobody, "16: firm 0", &tables[PRINTED], &tables[PRINTED], 0);
+    for (size_t k = 0; k < sizeof some / sizeof some[0]; k++)
+        for (int fault = 0; fault < 5; fault++) {
+            static const unsigned numbers[5] = {1, 3, 14, 15, 16};
+            unsigned number = fault == 1 && some[k] != 1 && some[k] != 2 ? 2 : numbers[fault];
+            r = *b;
+            set_record_version(&r, some[k]);
+            r.length = fault == 0 ? 19 : b->length;
+            r.bytes[2] = fault == 1 ? 5 : 4;
+            r.table = fault == 2 ? &tables[LATE] : fault == 3 ? &tables[DENSE] : fault == 4 ? &nobody : NULL;
+            int good = judged_alike(&r, reports);
+            count(&tally, reports[0][1], !good || reports[0][1] != number);
+        }
+    return print_tally(&tally, "records of all record versions judged, read and written again");
+}
+
+/* The least distance to an edge in record version 2, in tenths: by the component of the force towards it, and the whole
+ * force squared.  In version 1 it is 3d. */
+static int32_t least_edge(unsigned d, int64_t towards, uint64_t squared)
+{
+    uint64_t z = 30 * d;
+    if (towards > 0)
+        while ((z - 20 * d) * (z - 20 * d) * squared < UINT64_C(400) * d * d * (uint64_t)(towards * towards))
+            z++;
+    return (int32_t)z;
+}
+
+/* Two members with four dowels, and of each member the distances from its low and its high edge: the least by record
+ * version 2, and as they are. */
+struct edges {
+    unsigned d, grain[2];
+    int32_t force[2], least[2][2], at[2][2];
+};
+
+/* Two dowels stand next to each edge.  Ends are far away. */
+static void write_edges(struct record *r, const struct edges *e)
+{
+    static const int32_t four[4][2] = {{0, 0}, {3000, 0}, {0, 3000}, {3000, 3000}};
+    int32_t members[2][7];
+    for (int k = 0; k < 2; k++) {
+        unsigned across = 1 - e->grain[k];
+        const int32_t member[7] = {1, (int32_t)e->grain[k], 800, -90000, -90000, 90000, 90000};
+        memcpy(members[k], member, sizeof member);
+        members[k][3 + across] = -e->at[k][0];
+        members[k][5 + across] = 3000 + e->at[k][1];
+    }
+    write_record(r, "edges", 0, 2, members, e->d, 1, 4, four, e->force[0], e->force[1]);
+}
+
+/* One edge of a member in record versions 1 and 2: the first dowel next to it is refused where the rule of the version
+ * asks for more, and where both versions accept they judge alike to the last number. */
+static void compare_edge(const struct edges *e, int k, int side, struct tally tally[2])
+{
+    static struct record r;
+    uint64_t reports[2][VERSIONS][8];
+    int good[2];
+    write_edges(&r, e);
+    for (int n = 0; n < 2; n++) {
+        uint64_t place[4] = {0, 0, 0, 0};
+        if (e->at[k][side] < (n == 0 ? 30 * (int32_t)e->d : e->least[k][side])) {
+            place[0] = 12;
+            place[1] = (uint64_t)k + 1;
+            place[2] = side == 0 ? 1 : e->grain[k] == 0 ? 3 : 2;
+        }
+        set_record_version(&r, (unsigned)n + 1);
+        good[n] = judged_alike(&r, reports[n]) && memcmp(reports[n][0] + 1, place, sizeof place) == 0;
+    }
+    if (reports[0][0][1] == 0 && reports[1][0][1] == 0)
+        good[1] = good[1] && memcmp(reports[0], reports[1], sizeof reports[0]) == 0;
+    for (int n = 0; n < 2; n++) {
+        if (!good[n] && tally[n].bad < 5) {
+            printf("record version %d, d %u, grains %u %u, force %d %d, member %d, its %s edge at %d:\n", n + 1, e->d,
+                   e->grain[0], e->grain[1], e->force[0], e->force[1], k + 1, side == 0 ? "low" : "high",
+                   e->at[k][side]);
+            print_reports(r.name, reports[n], 0);
+        }
+        count(&tally[n], reports[n][0][1], !good[n]);
+    }
+}
+
+/* Each edge of each member at the limit of record version 2, a tenth beside it and at other places, with all others at
+ * their limits. */
+static void compare_edges_of(unsigned d, const unsigned grain[2], const int32_t force[2], struct tally tally[2])
+{
+    const int32_t three = 30 * (int32_t)d, four = 40 * (int32_t)d;
+    const int64_t x = force[0], y = force[1];
+    struct edges e = {d, {grain[0], grain[1]}, {force[0], force[1]}, {{0, 0}, {0, 0}}, {{0, 0}, {0, 0}}};
+    for (int k = 0; k < 2; k++)
+        for (int side = 0; side < 2; side++) {
+            int64_t up = grain[k] == 0 ? y : x; /* in member 2; member 1 gets the opposite */
+            e.least[k][side] = least_edge(d, k == side ? up : -up, (uint64_t)(x * x + y * y));
+        }
+    memcpy(e.at, e.least, sizeof e.at);
+    for (int k = 0; k < 2; k++)
+        for (int side = 0; side < 2; side++) {
+            const int32_t least = e.least[k][side];
+            const int32_t at[] = {least, least - 1, least + 1, three, three - 1, four, four - 1, -1};
+            for (size_t n = 0; n < sizeof at / sizeof at[0]; n++) {
+                e.at[k][side] = at[n];
+                compare_edge(&e, k, side, tally);
+            }
+            e.at[k][side] = least;
+        }
+}
+
+/* 1 to 1,000,000 N one way or the other, great and small. */
+static int32_t any_component(void)
+{
+    int32_t size = 1 + (int32_t)(any_number() % 1000000 >> any_number() % 20);
+    return any_number() & 1 ? size : -size;
+}
+
+/* So for diameters, grains, and forces every way; then for some of each by chance. */
+static int compare_edges(void)
+{
+    static const unsigned diameters[] = {6, 8, 11, 12, 13, 21, 22, 26, 30};
+    static const int32_t forces[][2] = {
+        {0, 1}, {0, 1000000},                     /* 0 across one grain */
+        {1, 1000000}, {1, 20000}, {1, 2}, {1, 1}, /* 1 N across one */
+        {3, 4}, {300000, 400000}, {5, 12}, {384615, 923076}, {8, 15}, {140000, 480000}, {20, 21}, /* sin α rational */
+        {2, 3}, {1000000, 1000000}, {999999, 1000000}, {123457, 654321},
+        {866025, 500000}, {866026, 500000}, /* 3d is hardly too little for d 30, and enough */
+        /* the limit for one of the diameters is less than 1e-11 below a whole tenth, or above it: the first for d 11 by
+         * 5e-14, which f64 does not see */
+        {851525, 164633}, {808984, 434547}, {686573, 504622}, {633589, 284040}, {503022, 204041}, {853505, 393001},
+    };
+    struct tally tally[2] = {{0, 0, 0}, {0, 0, 0}};
+    for (size_t i = 0; i < sizeof diameters / sizeof diameters[0]; i++)
+        for (size_t f = 0; f < sizeof forces / sizeof forces[0]; f++)
+            for (unsigned turn = 0; turn < 16; turn++) {
+                const unsigned grain[2] = {turn & 1, turn >> 1 & 1};
+                const int32_t force[2] = {turn & 4 ? -forces[f][0] : forces[f][0],
+                                          turn & 8 ? -forces[f][1] : forces[f][1]};
+                compare_edges_of(diameters[i], grain, force, tally);
+            }
+    for (int k = 0; k < 1500; k++) {
+        const unsigned d = 6 + any_number() % 25, turn = any_number() % 4;
+        const int32_t x = any_component(), y = any_component();
+        compare_edges_of(d, (const unsigned[2]){turn & 1, turn >> 1}, (const int32_t[2]){x, y}, tally);
+    }
+    return print_tally(&tally[0], "records of version 1 at edges judged, read and written again")
+         + print_tally(&tally[1], "records of version 2 at edges judged, read and written again");
 }
 
 /* ---- whole square roots */
@@ -1130,14 +1338,15 @@ static int print_times(enum job job, const struct record *joints, double ns[TIME
     return missed;
 }
 
-/* The times of a job by these tables, set against the printed one. */
-static void print_tabled(enum job job, const struct record *tabled, double ns[TABLED][JOBS][VERSIONS])
+/* The times of a job with these records, set against the first of each group of so many. */
+static void print_groups(enum job job, const char *what, const struct record *r, int records, int group,
+                         double ns[][JOBS][VERSIONS])
 {
     print_head(JOB[job], NARROW);
-    printf("  table/printed, proved\n");
-    for (int k = 0; k < TABLED; k++) {
-        print_row(tabled[k].name, NARROW, 0, ns[k][job]);
-        printf("  %.4f\n", ns[k][job][0] / ns[0][job][0]);
+    printf("  %s, proved\n", what);
+    for (int k = 0; k < records; k++) {
+        print_row(r[k].name, NARROW, 0, ns[k][job]);
+        printf("  %.4f\n", ns[k][job][0] / ns[k - k % group][job][0]);
     }
 }
 
@@ -1412,8 +1621,9 @@ static int compare_shared(int many_tables, const struct record *r, int records, 
 
 int main(int argc, char **argv)
 {
-    static struct record records[JOINTS + FILES], tabled[TABLED], thick[THICK][THICKNESSES];
-    static double ns[TIMED][JOBS][VERSIONS], ns_by[TABLED][JOBS][VERSIONS];
+    static struct record records[2 * (JOINTS + FILES)], tabled[TABLED], versioned[VERSIONED];
+    static struct record thick[THICK][THICKNESSES];
+    static double ns[TIMED][JOBS][VERSIONS], ns_by[TABLED][JOBS][VERSIONS], ns_in[VERSIONED][JOBS][VERSIONS];
     struct record *const joints = records;
     struct tally written = {0, 0, 0};
     int bad = 0, missed = 0, many_tables = TABLES;
@@ -1425,17 +1635,26 @@ int main(int argc, char **argv)
     write_records(joints);
     write_tables();
     write_thick(thick, &joints[0]);
+    write_versioned(versioned, &joints[0], &thick[1][0], &joints[2]);
     int many = JOINTS + read_files(argc - first, argv + first, records + JOINTS, FILES, &many_tables);
+    for (int k = 0; k < many; k++)
+        write_other_version(&records[many + k], &records[k]);
 
     printf("Answers (U C E, or a refusal's number and place); values read and bytes written agree too\n%-26s", "");
     for (int v = 0; v < VERSIONS; v++)
         printf(" %-26s", VERSION[v].name);
     printf("\n");
-    for (int k = 0; k < many; k++)
+    for (int k = 0; k < 2 * many; k++) {
+        if (k == many)
+            printf("the same in record version 2, and in version 1 what was in 2\n");
         bad += !compare(&records[k]);
+    }
+    many *= 2;
     const struct alike printed = alone(NULL);
     compare_writers(&joints[0], &printed, &written);
     bad += print_tally(&written, "sets of values written by each version");
+    bad += compare_record_versions(&joints[0]);
+    bad += compare_edges();
     bad += compare_thick(thick);
     bad += compare_roots();
 
@@ -1448,6 +1667,8 @@ int main(int argc, char **argv)
     write_tabled(tabled, &joints[0]);
     for (int k = 0; k < TABLED; k++)
         read_values(0, &tabled[k], &tabled[k].values);
+    for (int k = 0; k < VERSIONED; k++)
+        read_values(0, &versioned[k], &versioned[k].values);
 
     printf("\nTime: ns per call, median of %d batches of about %.0f ms, the versions and jobs taking turns\n", BATCHES,
            BATCH_NS / 1e6);
@@ -1460,7 +1681,12 @@ int main(int argc, char **argv)
            TABLED);
     time_records(tabled, TABLED, ns_by);
     for (int j = 0; j < JOBS; j++)
-        print_tabled(j, tabled, ns_by);
+        print_groups(j, "table/printed", tabled, TABLED, TABLED, ns_by);
+
+    printf("\nTime of three joints in record versions 1 and 2, which take turns too\n");
+    time_records(versioned, VERSIONED, ns_in);
+    for (int j = 0; j < JOBS; j++)
+        print_groups(j, "version 2/1", versioned, VERSIONED, 2, ns_in);
 
     printf("\nTime of one joint with 100 thicknesses in turn, ns per joint; of whole roots, ns per call\n");
     time_thick(thick);
@@ -1474,6 +1700,10 @@ int main(int argc, char **argv)
     printf("\nStack: deepest byte that one call changed, in bytes below the caller's frame, on a painted stack\n");
     for (int j = 0; j < JOBS; j++) {
         size_t depth = print_stack(j, joints, JOINTS);
+        deepest = depth > deepest ? depth : deepest;
+    }
+    for (int j = 0; j < JOBS; j++) {
+        size_t depth = print_stack(j, versioned, VERSIONED);
         deepest = depth > deepest ? depth : deepest;
     }
     for (int j = 0; j < JOBS; j++) {

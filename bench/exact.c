@@ -24,6 +24,9 @@ static const struct table PRINTED = {{
 static const unsigned STEEL[3] = {360, 430, 510};
 static const unsigned KMOD[3][5] = {{60, 70, 80, 90, 110}, {60, 70, 80, 90, 110}, {50, 55, 65, 70, 90}};
 
+/* Versions of the record that are known; the first by which a loaded edge is one of EN 1995-1-1. */
+enum { OLDEST = 1, NEWEST = 2, LOADED_EDGES = 2 };
+
 /* Units of the capacity and of the share before they become whole, and of the root of the squared force. */
 #define PARTS 1000000000ul
 #define ROOT_BITS 64
@@ -35,7 +38,7 @@ struct member {
 
 struct joint {
     const struct table *table; /* that its classes are of */
-    unsigned planes, d, steel, n, service, duration;
+    unsigned version, planes, d, steel, n, service, duration;
     struct member members[2];
     int32_t at[2][64]; /* x and y */
     int32_t force[2];
@@ -87,6 +90,8 @@ static unsigned load_for(uint32_t firm, const uint8_t *b, size_t length, struct 
     return firm == 1 ? load_entries(b + 10, first, t) : load_entries(b + 10 + first, second, t);
 }
 
+static int is_known(unsigned version) { return OLDEST <= version && version <= NEWEST; }
+
 static int within(int32_t z, int32_t limit) { return -limit <= z && z <= limit; }
 
 /* Refusals 7 to 9, or 0; the number of dowels is tested before. */
@@ -126,7 +131,8 @@ static unsigned read_joint(const uint8_t *b, size_t length, struct joint *j)
 
     if (length < 20)
         return 1;
-    if (u16_at(b) != 1)
+    j->version = u16_at(b);
+    if (!is_known(j->version))
         return 2;
     if (u16_at(b + 2) != 4)
         return 3;
@@ -197,6 +203,16 @@ static int32_t least_root(uint64_t length, uint64_t part, uint64_t whole)
 
 static int32_t most(int32_t a, int32_t b) { return a < b ? b : a; }
 
+/* The least distances from a member's two ends or edges: that towards which the force in it goes, and another. */
+struct distances {
+    int32_t loaded, other;
+};
+
+static int too_near(int32_t z, int32_t low, int32_t high, int32_t force, struct distances least)
+{
+    return z - low < (force < 0 ? least.loaded : least.other) || high - z < (force > 0 ? least.loaded : least.other);
+}
+
 /* Refusals 10 to 12 of a member, or 0. */
 static unsigned spacing(const struct joint *j, int k, uint64_t place[2])
 {
@@ -204,11 +220,13 @@ static unsigned spacing(const struct joint *j, int k, uint64_t place[2])
     unsigned g = m->grain;
     const int32_t *along = j->at[g], *across = j->at[1 - g];
     int32_t d = 10 * (int32_t)j->d;
-    uint64_t cos2 = square(j->force[g]), whole = total(j);
+    uint64_t cos2 = square(j->force[g]), whole = total(j), sin2 = whole - cos2;
     int32_t apart = 3 * d + least_root(2 * (uint64_t)d, cos2, whole);
-    int32_t loaded = most(7 * d, 800);
-    int32_t free_end = most(3 * d, least_root(7 * (uint64_t)d, whole - cos2, whole));
-    int32_t force = k == 0 ? -j->force[g] : j->force[g];
+    struct distances end = {most(7 * d, 800), most(3 * d, least_root(7 * (uint64_t)d, sin2, whole))};
+    struct distances edge = {3 * d, 3 * d};
+    if (j->version >= LOADED_EDGES)
+        edge.loaded = most(3 * d, 2 * d + least_root(2 * (uint64_t)d, sin2, whole));
+    int32_t sign = k == 0 ? -1 : 1;
 
     for (unsigned i = 0; i < j->n; i++)
         for (unsigned l = i + 1; l < j->n; l++)
@@ -220,13 +238,12 @@ static unsigned spacing(const struct joint *j, int k, uint64_t place[2])
     place[1] = 0;
     for (unsigned i = 0; i < j->n; i++) {
         place[0] = i + 1;
-        if (along[i] - m->low[g] < (force < 0 ? loaded : free_end)
-            || m->high[g] - along[i] < (force > 0 ? loaded : free_end))
+        if (too_near(along[i], m->low[g], m->high[g], sign * j->force[g], end))
             return 11;
     }
     for (unsigned i = 0; i < j->n; i++) {
         place[0] = i + 1;
-        if (across[i] - m->low[1 - g] < 3 * d || m->high[1 - g] - across[i] < 3 * d)
+        if (too_near(across[i], m->low[1 - g], m->high[1 - g], sign * j->force[1 - g], edge))
             return 12;
     }
     place[0] = 0;
@@ -508,13 +525,14 @@ uint32_t exact_judge_for(uint32_t firm, const uint8_t *shared, size_t shared_len
 
 /* ---- values: 27 numbers in the header's order, x and y */
 
-enum { VALUES = 27, MEMBER_VALUES = 9, VERSION = 1 };
+enum { VALUES = 27, MEMBER_VALUES = 9 };
 
 /* Refusals 2 and 7 to 9, or 0; the joint has its table.  A number below 0 is far above its limit as an unsigned one. */
 static unsigned take_joint(const int32_t *fields, const int32_t *const at[2], size_t x_len, size_t y_len,
                            struct joint *j)
 {
-    if (fields[0] != VERSION)
+    j->version = (unsigned)fields[0];
+    if (!is_known(j->version))
         return 2;
     if (x_len != y_len || x_len < 1 || x_len > 64)
         return 7;
@@ -553,7 +571,7 @@ static void write_joint(const struct joint *j, uint8_t *b)
 {
     const unsigned lengths[4] = {42, 3, 2 + 8 * j->n, 11};
     unsigned offset = 20;
-    b = put(put(b, VERSION, 2), 4, 2);
+    b = put(put(b, j->version, 2), 4, 2);
     for (int k = 0; k < 4; k++) {
         b = put(put(b, offset, 2), lengths[k], 2);
         offset += lengths[k];
@@ -593,7 +611,7 @@ uint32_t exact_write(const int32_t *fields, size_t fields_len, const int32_t *x,
                      size_t y_len, const int32_t *marks, size_t marks_len, uint8_t *buffer, size_t buffer_len,
                      uint64_t *answer, size_t answer_len)
 {
-    (void)marks; /* version 1 has none */
+    (void)marks; /* no version has any */
     (void)marks_len;
     if (fields_len < VALUES || answer_len < 2)
         return 1;
@@ -643,7 +661,7 @@ static void read_values(unsigned number, const struct table *table, const uint8_
     answer[1] = answer[0] == 0 ? j.n : 0;
     if (answer[0] != 0)
         return;
-    fields[0] = VERSION;
+    fields[0] = (int32_t)j.version;
     fields[1] = (int32_t)j.planes;
     for (int k = 0; k < 2; k++) {
         const struct member *m = &j.members[k];

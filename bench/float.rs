@@ -1,6 +1,7 @@
 // The same job in plain floating point: read a record, refuse it, or give verdict, use, capacity and row share; write a
 // record from values and read values from a record; find whole square roots.
-// Nothing here is proved, and comparisons are only as good as f64: it is a yardstick for the benchmark.
+// Nothing here is proved, and comparisons are only as good as f64, but for a loaded edge's: it is a yardstick for the
+// benchmark.
 
 // By class from 1: k90 without its 0.015 d (1.35 softwood, 0.90 hardwood), and the density.
 const WOOD: [(f64, f64); 11] = [
@@ -22,6 +23,11 @@ const KMOD: [[f64; 5]; 3] = [
     [0.60, 0.70, 0.80, 0.90, 1.10],
     [0.50, 0.55, 0.65, 0.70, 0.90],
 ];
+
+// Versions of the record that are known; the first by which a loaded edge is one of EN 1995-1-1.
+const OLDEST: i32 = 1;
+const NEWEST: i32 = 2;
+const LOADED_EDGES: i32 = 2;
 
 // What a call is lent for its classes: nothing, a firm's own table, or a firm's number and one that two firms share.
 #[derive(Clone, Copy)]
@@ -64,6 +70,7 @@ struct Member {
 
 // Lengths in tenths of a millimetre, the diameter in millimetres, forces in newtons.
 struct Joint {
+    version: i32,
     planes: u8,
     members: [Member; 2],
     d: f64,
@@ -130,14 +137,17 @@ fn load(lent: Lent<'_>) -> Result<Table<'_>, Refusal> {
     Ok(Table::Own(entries))
 }
 
-// Refusals 1 to 6; where each kind's part starts.
-fn layout(b: &[u8]) -> Result<[usize; 4], Refusal> {
+// Refusal 2.
+fn known(version: i32) -> Result<i32, Refusal> {
+    if (OLDEST..=NEWEST).contains(&version) { Ok(version) } else { refuse(2) }
+}
+
+// Refusals 1 to 6; the version, and where each kind's part starts.
+fn layout(b: &[u8]) -> Result<(i32, [usize; 4]), Refusal> {
     if b.len() < 20 {
         return refuse(1);
     }
-    if u16_at(b, 0) != 1 {
-        return refuse(2);
-    }
+    let version = known(u16_at(b, 0) as i32)?;
     if u16_at(b, 2) != 4 {
         return refuse(3);
     }
@@ -169,7 +179,7 @@ fn layout(b: &[u8]) -> Result<[usize; 4], Refusal> {
     if lengths[2] < 2 || lengths[2] != 2 + 8 * b[at[2] + 1] as usize {
         return refuse(6);
     }
-    Ok(at)
+    Ok((version, at))
 }
 
 fn member(b: &[u8], i: usize, table: Table) -> Member {
@@ -216,12 +226,13 @@ fn value_fault(j: &Joint) -> Result<(), Refusal> {
 
 // Refusals 1 to 9.
 fn read(b: &[u8], table: Table) -> Result<Joint, Refusal> {
-    let at = layout(b)?;
+    let (version, at) = layout(b)?;
     let n = b[at[2] + 1] as usize;
     if !(1..=64).contains(&n) {
         return refuse(7);
     }
     let mut j = Joint {
+        version,
         planes: b[at[0] + 1],
         members: [member(b, at[0] + 2, table), member(b, at[0] + 22, table)],
         d: b[at[1] + 1] as f64,
@@ -242,16 +253,30 @@ fn read(b: &[u8], table: Table) -> Result<Joint, Refusal> {
     Ok(j)
 }
 
+// The least whole number that is not below a length times the root of part/whole: the one nearest to what f64 makes of
+// it, or the next.  Which of the two, f64 would guess where they are close; their squares say it, whole and in 64 bits.
+fn least_root(length: f64, part: f64, whole: f64) -> f64 {
+    let near = (length * (part / whole).sqrt() + 0.5) as i64;
+    let [l, p, w] = [length, part, whole].map(|z| z as i64);
+    (if near * near * w < l * l * p { near + 1 } else { near }) as f64
+}
+
+// The least distances from the low and from the high one of two ends or edges, by the force from one to the other.
+fn least_distances(force: f64, loaded: f64, other: f64) -> (f64, f64) {
+    (if force < 0. { loaded } else { other }, if force > 0. { loaded } else { other })
+}
+
 // Refusals 10 to 12 of a member, with the force in it.
 fn spacing(j: &Joint, k: usize, fx: f64, fy: f64) -> Result<(), Refusal> {
     let m = &j.members[k];
     let place = k as u64 + 1;
-    let (along, across, force) =
-        if m.grain == 0 { (&j.x[..j.n], &j.y[..j.n], fx) } else { (&j.y[..j.n], &j.x[..j.n], fy) };
+    let (along, across, force_along, force_across) =
+        if m.grain == 0 { (&j.x[..j.n], &j.y[..j.n], fx, fy) } else { (&j.y[..j.n], &j.x[..j.n], fy, fx) };
     let ((end0, end1), (edge0, edge1)) =
         if m.grain == 0 { ((m.x0, m.x1), (m.y0, m.y1)) } else { ((m.y0, m.y1), (m.x0, m.x1)) };
     let d = 10. * j.d;
-    let cos2 = force * force / (fx * fx + fy * fy);
+    let whole = fx * fx + fy * fy;
+    let cos2 = force_along * force_along / whole;
     let apart = (3. + 2. * cos2.sqrt()) * d;
     for i in 0..j.n {
         for l in i + 1..j.n {
@@ -260,17 +285,20 @@ fn spacing(j: &Joint, k: usize, fx: f64, fy: f64) -> Result<(), Refusal> {
             }
         }
     }
-    let loaded = (7. * d).max(800.);
     let free = (7. * d * (1. - cos2).sqrt()).max(3. * d);
-    let low = if force < 0. { loaded } else { free };
-    let high = if force > 0. { loaded } else { free };
+    let (low, high) = least_distances(force_along, (7. * d).max(800.), free);
     for i in 0..j.n {
         if along[i] - end0 < low || end1 - along[i] < high {
             return Err([11, place, i as u64 + 1, 0]);
         }
     }
+    let mut loaded = 3. * d;
+    if j.version >= LOADED_EDGES {
+        loaded = loaded.max(2. * d + least_root(2. * d, force_across * force_across, whole));
+    }
+    let (low, high) = least_distances(force_across, loaded, 3. * d);
     for i in 0..j.n {
-        if across[i] - edge0 < 3. * d || edge1 - across[i] < 3. * d {
+        if across[i] - edge0 < low || edge1 - across[i] < high {
             return Err([12, place, i as u64 + 1, 0]);
         }
     }
@@ -441,7 +469,6 @@ pub unsafe extern "C" fn float_judge_for(
 
 const VALUES: usize = 27;
 const DOWELS: usize = 64;
-const VERSION: u16 = 1;
 
 // A number as the byte that a code fills; a refused one, 0, where it is too wide (no code is 0 but the grain's).
 fn code(z: i32) -> u8 {
@@ -463,14 +490,13 @@ fn member_from(f: &[i32], table: Table) -> Member {
 
 // Refusals 2 and 7 to 9.
 fn take(fields: &[i32], x: &[i32], y: &[i32], table: Table) -> Result<Joint, Refusal> {
-    if fields[0] != VERSION as i32 {
-        return refuse(2);
-    }
+    let version = known(fields[0])?;
     let n = x.len();
     if n != y.len() || !(1..=DOWELS).contains(&n) {
         return refuse(7);
     }
     let mut j = Joint {
+        version,
         planes: code(fields[1]),
         members: [member_from(&fields[2..11], table), member_from(&fields[11..20], table)],
         d: fields[20] as f64,
@@ -512,7 +538,7 @@ impl Put<'_> {
 
 fn write_joint(j: &Joint, buffer: &mut [u8]) {
     let mut p = Put { buffer, at: 0 };
-    p.u16(VERSION);
+    p.u16(j.version as u16);
     p.u16(4);
     let mut offset = 20;
     for length in [42, 3, 2 + 8 * j.n as u16, 11] {
@@ -682,7 +708,7 @@ unsafe fn read_lent(
             return 0;
         }
     };
-    fields[0] = VERSION as i32;
+    fields[0] = j.version;
     fields[1] = j.planes as i32;
     for (m, f) in j.members.iter().zip(fields[2..20].chunks_exact_mut(9)) {
         let outline = [m.x0 as i32, m.y0 as i32, m.x1 as i32, m.y1 as i32];

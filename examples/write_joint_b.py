@@ -1,10 +1,15 @@
 #!/usr/bin/env python3
-"""Writes the record of joint B to standard output: write_joint_b.py > joint-b.rec
+"""Writes the record of joint B to standard output: write_joint_b.py [--version 2] > joint-b.rec
 
-Lengths in tenths of a millimetre, forces in newtons, numbers little-endian.
+In version 2 edges are judged by EN 1995-1-1, Table 8.5; without the option the version is 1. Lengths in tenths of a millimetre, forces
+in newtons, numbers little-endian.
 """
 import struct
 import sys
+
+if sys.argv[1:] not in ([], ["--version", "1"], ["--version", "2"]):
+    sys.exit("usage: write_joint_b.py [--version 1 | --version 2]")
+version = int(sys.argv[2]) if sys.argv[1:] else 1
 
 C24, GRAIN_X, S235, MEDIUM = 1, 0, 1, 3
 shear_planes = 2
@@ -22,7 +27,7 @@ parts = [
     struct.pack("<BB", 3, len(dowels)) + b"".join(struct.pack("<ii", *xy) for xy in dowels),
     struct.pack("<BBBii", 4, service_class, MEDIUM, *force),
 ]
-record = struct.pack("<HH", 1, len(parts))          # version, number of pairs
+record = struct.pack("<HH", version, len(parts))    # the second is the number of pairs
 offset = 20
 for part in parts:
     record += struct.pack("<HH", offset, len(part))

@@ -80,15 +80,23 @@ uint32_t negwishal_judge(const uint8_t *record, size_t record_len, uint64_t *rep
 
 /* The values of a record but those of its dowels, by their place in fields.  The order is fixed for good: it has a place
  * for every field that a version of the record has or will have.  A place for which the record's version has no field is
- * not looked at by negwishal_write and is 0 from negwishal_read; with version 1 these are the GX, GY and PLATE below,
- * and the marks. */
+ * not looked at by negwishal_write and is 0 from negwishal_read; with versions 1 and 2 these are the GX, GY and PLATE
+ * below, and the marks.
+ *
+ * The version says by which rule edges are judged, refusal 12.  With 1 both edges of a member are at least 3d from each
+ * dowel.  With 2 it is the rule of EN 1995-1-1, Table 8.5: the edge towards which the force in that member has a component
+ * across the grain, be it 1 N, is loaded, and at least (2 + 2 sin a) d and at least 3d from each dowel, where a is the angle
+ * between force and grain; the other edge 3d.  Member 1 gets the opposite of FX and FY, so with one grain in both members
+ * their loaded edges lie on opposite sides.  Write 2 where the designer checks by EN 1995-1-1, else 1.  Layout, all other
+ * tests and the figures are the same: what is accepted with 2 gets the same report with 1, but 1 accepts some that 2 does
+ * not. */
 enum {
-    NEGWISHAL_AT_VERSION = 0,        /* 1 */
+    NEGWISHAL_AT_VERSION = 0,        /* 1 or 2 */
     NEGWISHAL_AT_PLANES = 1,         /* shear planes, 1 or 2 */
     NEGWISHAL_AT_CLASS_1 = 2,        /* member 1: class of wood */
     NEGWISHAL_AT_GRAIN_1 = 3,        /* 0 along x, 1 along y */
-    NEGWISHAL_AT_GX_1 = 4,           /* no field in version 1 */
-    NEGWISHAL_AT_GY_1 = 5,           /* no field in version 1 */
+    NEGWISHAL_AT_GX_1 = 4,           /* no field in versions 1 and 2 */
+    NEGWISHAL_AT_GY_1 = 5,           /* no field in versions 1 and 2 */
     NEGWISHAL_AT_THICKNESS_1 = 6,    /* tenths of a mm, like all lengths but the diameter */
     NEGWISHAL_AT_X0_1 = 7,           /* the outline's limits */
     NEGWISHAL_AT_Y0_1 = 8,
@@ -105,7 +113,7 @@ enum {
     NEGWISHAL_AT_Y1_2 = 19,
     NEGWISHAL_AT_DIAMETER = 20,      /* whole mm */
     NEGWISHAL_AT_STEEL = 21,
-    NEGWISHAL_AT_PLATE = 22,         /* no field in version 1 */
+    NEGWISHAL_AT_PLATE = 22,         /* no field in versions 1 and 2 */
     NEGWISHAL_AT_SERVICE_CLASS = 23,
     NEGWISHAL_AT_DURATION = 24,
     NEGWISHAL_AT_FX = 25,            /* whole newtons, into member 2 */
@@ -130,15 +138,16 @@ enum {
 
 /* Writes the record of the values in the first NEGWISHAL_VALUES of fields and in x and y, one number of each for a
  * dowel, into the first bytes of buffer, and NEGWISHAL_ANSWER numbers into answer.  The parts come in the order of their
- * kinds, 1 to 4.  A record of version 1 with N dowels has 78 + 8 N bytes: 590 with 64 dowels.
+ * kinds, 1 to 4.  A record of version 1 or 2 with N dowels has 78 + 8 N bytes: 590 with 64 dowels.
  *
- * Refused by the first of these that applies: 2, a version that is not known; 7, a number outside its limits, however
- * wide, or lists x and y of unequal length or of not 1 to 64 numbers; 8, an empty outline; 9, no force; 13, a buffer
- * shorter than the record.  Spacing is not tested: negwishal_judge does that.  On a refusal the buffer is left as it
- * is and the length is 0.  Bytes past the length, and numbers past the second of answer, are left as they are.
+ * Refused by the first of these that applies: 2, a version not yet known, which is any number but 1 and 2, however wide;
+ * 7, a number outside its limits, however wide, or lists x and y of unequal length or of not 1 to 64 numbers; 8, an empty
+ * outline; 9, no force; 13, a buffer shorter than the record.  Spacing is not tested, edges by neither version:
+ * negwishal_judge does that.  On a refusal the buffer is left as it is and the length is 0.  Bytes past the length, and
+ * numbers past the second of answer, are left as they are.
  *
- * A record that was written is not refused by negwishal_read and reads back to the same values, but for a 0 in each place
- * for which its version has no field.
+ * A record that was written is not refused by negwishal_read and reads back to the same values, the version that it was
+ * written in among them, but for a 0 in each place for which its version has no field.
  *
  * Needed: NEGWISHAL_VALUES numbers of fields and NEGWISHAL_ANSWER of answer; with fewer nothing is written and
  * NEGWISHAL_SHORT_SLICE comes back.  x, y, marks and buffer may have any length. */
@@ -151,8 +160,9 @@ uint32_t negwishal_write(const int32_t *fields, size_t fields_len, const int32_t
  * the first NEGWISHAL_POSITIONS of x, y and marks, with 0 past the last dowel; on a refusal all of these are 0.  Numbers
  * past these places, and past the second of answer, are left as they are.
  *
- * To write the record again, hand fields, and of x, y and marks as many numbers as there are dowels.  It reads alike;
- * its bytes may differ, for a record's parts may stand in any order.
+ * To write the record again, hand fields, and of x, y and marks as many numbers as there are dowels.  It keeps its
+ * version and reads alike; its bytes may differ, for a record's parts may stand in any order.  With the other version in
+ * NEGWISHAL_AT_VERSION the same joint is written for the other rule of edges.
  *
  * Needed: NEGWISHAL_VALUES numbers of fields, NEGWISHAL_POSITIONS of each of x, y and marks, NEGWISHAL_ANSWER of
  * answer; with fewer nothing is written and NEGWISHAL_SHORT_SLICE comes back. */

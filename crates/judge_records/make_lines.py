@@ -1,5 +1,6 @@
 #!/usr/bin/env python3
-"""Writes data/, args and stdout of this folder: the joints of document 01, of requests A1 and A3 and some more, and the line of each.
+"""Writes data/, args and stdout of this folder: the joints of document 01, of requests A1, A3 and A7 and some more, and the line of
+each.
 
 Refusals come from the reference engineer. Figures are worked out here with exact integers, as docs/DECISIONS.md says which figure
 within its bracket is reported, and are held to the engineer's brackets.
@@ -103,6 +104,12 @@ def main():
     joints["too-long"] = b + bytes(4097 - len(b))
     joints.update(records.hardwood_joints())
     joints.update(records.row_joints())
+    # 02, A7: joint B with its force across, and dowels at the limits of an edge, in both versions; versions that are not known
+    read = ROOT / "crates" / "read_records" / "data"
+    for path in sorted(read.glob("edge-m?-y?-86602?-*")) + sorted(read.glob("b-version-?-across*")):
+        joints[path.name] = path.read_bytes()
+    for version in (0, 3, 256, 257, 258, 65535):
+        joints["b-version-%d" % version] = struct.pack("<H", version) + b[2:]
     (HERE / "data").mkdir(exist_ok=True)
     for old in (HERE / "data").iterdir():
         old.unlink()

@@ -1,6 +1,6 @@
 #!/usr/bin/env python3
-"""Writes data/, args and stdout of this folder: tables and records, and the lines of each pair: by the table as a firm's own, and for each of five firm
-numbers by it as one that two firms share.
+"""Writes data/, args and stdout of this folder: tables and records, and the lines of each pair: by the table as a firm's own, and for each of
+five firm numbers by it as one that two firms share.
 
 Refusals come from the reference engineer. Figures are worked out with exact integers, as judge_records/make_lines.py does, and are held to
 the engineer's brackets; the two that request A4 prints are compared with what it says.
@@ -39,6 +39,15 @@ def wide(record, fx, fy):
 
 def classes(record, first, second):
     return record[:22] + bytes([first]) + record[23:42] + bytes([second]) + record[43:]
+
+
+def version(number, record):
+    return struct.pack("<H", number) + record[2:]
+
+
+def near_edge(record):
+    """Joint B with its force across the grain."""
+    return record[:102] + struct.pack("<ii", 0, 20000)
 
 
 def line(loaded, record):
@@ -117,6 +126,14 @@ def main():
         "b-5-across": classes(across, 5, 5),
         "b-5-and-9": classes(b, 5, 9),
         "b-1-and-5": classes(across, 1, 5),
+        # 02, A7: in version 2; with its force across it fails at member 1's lower edge there; a version that is not known
+        "b-version-2": version(2, b),
+        "b-across-version-2": version(2, across),
+        "b-200-version-2": version(2, classes(b, 200, 200)),
+        "b-5-across-version-2": version(2, classes(across, 5, 5)),
+        "b-near-edge-version-1": near_edge(b),
+        "b-near-edge-version-2": version(2, near_edge(b)),
+        "b-version-3": version(3, b),
         "own-class": example["own-class"],
         "dowels-599": example["dowels-599"],
         "nineteen-bytes": example["nineteen-bytes"],
@@ -152,6 +169,12 @@ def main():
           for t in ("firm-1-alone", "firm-2-alone", "shared", "shared-firm-1-faulty", "shared-firm-2-faulty")),
         *((t, r) for t in ("shared-both-faulty", "shared-length-6", "shared-trailing-byte", "shared-front-alone")
           for r in ("b-5-across", "nineteen-bytes", "no-bytes")),
+        # 02, A7: by a firm's own table and by a shared one both versions are judged, read and written
+        *((t, r) for t in ("1-hardwood-900", "printed-table.tab", "own-table.tab")
+          for r in ("b-version-2", "b-across-version-2", "b-near-edge-version-1", "b-near-edge-version-2", "b-version-3")),
+        ("200-alone", "b-200-version-2"), ("200-alone", "b-version-2"), ("five-bytes", "b-version-3"), ("codes-equal", "b-version-3"),
+        *((t, r) for r in ("b-5-across-version-2", "b-version-2", "b-version-3")
+          for t in ("firm-1-alone", "firm-2-alone", "shared", "shared-firm-1-faulty", "shared-firm-2-faulty")),
     ]
     lines = {pair: line(engineer.load(tables[pair[0]]), records[pair[1]]) for pair in pairs}
     for_firms = {(firm, *pair): line(engineer.load_for(firm, tables[pair[0]]), records[pair[1]]) for firm in FIRM_NUMBERS for pair in pairs}

@@ -79,16 +79,17 @@ for order in itertools.permutations((1, 2, 3, 4)):
 add("bytes-0", b"", "1 0 0 0")
 add("bytes-1", B[:1], "1 0 0 0")
 add("bytes-19", B[:19], "1 0 0 0")
-add("bytes-19-version-2", joint(version=2)[:19], "1 0 0 0")
+add("bytes-19-version-3", joint(version=3)[:19], "1 0 0 0")
 add("bytes-20", B[:20], "4 0 0 0")  # the last sum is not 20
 add("bytes-20-zero", bytes(20), "2 0 0 0")
 
-# ---- 2 version not 1
-add("version-0", joint(version=0), "2 0 0 0")
-add("version-2", joint(version=2), "2 0 0 0")
+# ---- 2 version not yet known: neither 1 nor 2
+add("version-2", joint(version=2))
+for version in (0, 3, 255, 0x0101, 0x0102, 0x0200, 0x0201, 0xffff):
+    add(f"version-{version}", joint(version=version), "2 0 0 0")
 add("version-big-endian", joint(version=0x0100), "2 0 0 0")
-add("version-257", joint(version=0x0101), "2 0 0 0")
-add("version-2-count-3", joint(version=2, count=3), "2 0 0 0")
+add("version-3-count-3", joint(version=3, count=3), "2 0 0 0")
+add("version-2-count-3", joint(version=2, count=3), "3 0 0 0")
 
 # ---- 3 pair count not 4
 add("count-3", joint(count=3), "3 0 0 0")
@@ -247,6 +248,57 @@ add("b-one-dowel", joint(points=DOWELS[:1], fx=3000))
 big = dict(x0=-20000, y0=-20000, x1=20000, y1=20000)
 add("along-504", joint(m1=big, m2=big, points=[(0, 0), (504, 0)], fx=3000, fy=4000))
 add("along-503", joint(m1=big, m2=big, points=[(0, 0), (503, 0)], fx=3000, fy=4000), "10 1 1 2")
+
+
+# ---- 02, A7: the edges of version 2. One dowel of 30 mm at the origin, every limit but one far away; (2 + 2 sin α) d is 600 and 600 sin α
+def edge(version, force, which="m2", d=30, grain=0, **limit):
+    far = dict(x0=-90000, y0=-90000, x1=90000, y1=90000, grain=grain)
+    outlines = {"m1": dict(far), "m2": dict(far)}
+    outlines[which].update(limit)
+    return joint(**outlines, d=d, points=[(0, 0)], version=version, fx=force[0], fy=force[1])
+
+
+# sin α a hair above 1/2, and a hair below it: 3d are 900
+for fx, z in ((866025, 901), (866026, 900)):
+    for at, good in ((z, True), (z - 1, False)):
+        add(f"edge-m2-y1-{fx}-{at}", edge(2, (fx, 500000), "m2", y1=at), "accepted" if good else "12 2 1 0")
+        add(f"edge-m1-y0-{fx}-{at}", edge(2, (fx, 500000), "m1", y0=-at), "accepted" if good else "12 1 1 0")
+add("edge-m2-y1-866025-900-version-1", edge(1, (866025, 500000), "m2", y1=900))
+add("edge-m2-y1-866025-899-version-1", edge(1, (866025, 500000), "m2", y1=899), "12 2 1 0")
+# the other edges need 3d: the force in member 2 runs away from y0, that in member 1 from y1
+for which, limit, sign in (("m2", "y0", -1), ("m1", "y1", 1)):
+    for at, good in ((900, True), (899, False)):
+        add(f"edge-{which}-{limit}-not-loaded-{at}", edge(2, (0, 500000), which, **{limit: sign * at}), "accepted" if good else f"12 {which[1]} 1 0")
+# sin α = 1, 4/5, 3/5 with d = 10: 400, 360, 320, in each member and with the grain along x and y; 0: no edge is loaded
+for grain in (0, 1):
+    low, high = ("y0", "y1") if grain == 0 else ("x0", "x1")
+    turned = (lambda along, across: (along, across)) if grain == 0 else (lambda along, across: (across, along))
+    for along, across, z in ((0, 1, 400), (3, 4, 360), (-4, 3, 320), (5, 0, 300)):
+        for which, limit, sign in (("m2", high, 1), ("m1", low, -1)):
+            for at, good in ((z, True), (z - 1, False)):
+                add(f"edge-{which}-grain-{grain}-{along}-{across}-{at}",
+                    edge(2, turned(along * 1000, across * 1000), which, 10, grain, **{limit: sign * at}),
+                    "accepted" if good else f"12 {which[1]} 1 0")
+                add(f"edge-{which}-grain-{grain}-{along}-{across}-{at}-back",
+                    edge(2, turned(along * 1000, across * -1000), which, 10, grain, **{"m2": {low: -at}, "m1": {high: at}}[which]),
+                    "accepted" if good else f"12 {which[1]} 1 0")
+# 1 N across of a million: (2 + 0.000002) d is far below 3d
+add("edge-1-n-across", edge(2, (1000000, 1), "m2", y1=900))
+add("edge-1-n-across-899", edge(2, (1000000, 1), "m2", y1=899), "12 2 1 0")
+# the edges of one member come before all of the next, and after its own pairs and ends; joint B in version 2 with a force across
+add("b-version-2-across", joint(version=2, fx=0, fy=20000), "12 1 1 0")
+add("b-version-2-across-end", joint(version=2, m1=dict(x0=-839), fx=0, fy=20000), "11 1 1 0")
+add("b-version-2-across-member-2", joint(version=2, m1=dict(y0=-480), fx=0, fy=20000), "12 2 3 0")
+add("b-version-2-across-wide", joint(version=2, m1=dict(y0=-480), m2=dict(y1=840), fx=0, fy=20000))
+add("b-version-1-across", joint(version=1, fx=0, fy=20000))
+# version 1 refuses member 2's end, version 2 member 1's edge before it
+for version, answer in ((1, "11 2 2 0"), (2, "12 1 1 0")):
+    add(f"b-version-{version}-skew-end", joint(version=version, m2=dict(x1=1439), fx=20000, fy=20000), answer)
+# grains that differ: with force (3,000, 4,000) sin α is 3/5 in member 1, grain y, and 4/5 in member 2, grain x
+for x0, y1, answer in ((-320, 360, "accepted"), (-319, 360, "12 1 1 0"), (-320, 359, "12 2 1 0")):
+    far = dict(x0=-90000, y0=-90000, x1=90000, y1=90000)
+    add(f"edge-crossed-{-x0}-{y1}",
+        joint(m1={**far, "grain": 1, "x0": x0}, m2={**far, "y1": y1}, d=10, points=[(0, 0)], version=2, fx=3000, fy=4000), answer)
 
 os.makedirs("data", exist_ok=True)
 names = [name for name, _, _ in RECORDS]

@@ -1,7 +1,7 @@
 #!/usr/bin/env python3
 """Writes stdin and stdout of this folder, run there: joints, and what exact integers give for them.
 
-Works from document 01 and 02's A3 alone: distances as integers, cosines through their squares, shares by their 20th power.
+Works from document 01 and 02's A3 and A7 alone: distances as integers, cosines through their squares, shares by their 20th power.
 """
 from math import isqrt
 from fractions import Fraction
@@ -15,7 +15,7 @@ def dot(direction, point):
     return point[0] if direction == 0 else point[1]
 
 
-def verdict_of(which, member, d, force, dowels):
+def verdict_of(which, member, d, force, dowels, eurocode=False):
     grain, x0, y0, x1, y1 = member
     f = force if which == 2 else (-force[0], -force[1])
     along, across = dot(grain, f), dot(1 - grain, f)
@@ -40,8 +40,12 @@ def verdict_of(which, member, d, force, dowels):
             if not good:
                 return (11, which, i + 1, 0)
     for i, p in enumerate(dowels):
-        if min(dot(1 - grain, p) - left, right - dot(1 - grain, p)) < 30 * d:
-            return (12, which, i + 1, 0)
+        for distance, loaded in ((dot(1 - grain, p) - left, across < 0), (right - dot(1 - grain, p), across > 0)):
+            good = distance >= 30 * d
+            if eurocode and loaded:
+                good = good and distance >= 20 * d and Fraction((distance - 20 * d) ** 2) >= 400 * d * d * sin2
+            if not good:
+                return (12, which, i + 1, 0)
     return None
 
 
@@ -66,11 +70,19 @@ def share_of(member, d, dowels):
     return best
 
 
-def case(d, force, side, middle, dowels, expect=None):
-    got = verdict_of(1, side, d, force, dowels) or verdict_of(2, middle, d, force, dowels) or (0, 0, 0, 0)
+def both(d, force, side, middle, dowels, eurocode):
+    return (verdict_of(1, side, d, force, dowels, eurocode) or verdict_of(2, middle, d, force, dowels, eurocode)
+            or (0, 0, 0, 0))
+
+
+def case(d, force, side, middle, dowels, expect=None, by_eurocode=None):
+    got = both(d, force, side, middle, dowels, False)
     if expect is not None:
         assert got == expect, (got, expect)
-    line = (*got, share_of(side, d, dowels), share_of(middle, d, dowels))
+    more = both(d, force, side, middle, dowels, True)
+    if by_eurocode is not None:
+        assert more == by_eurocode, (more, by_eurocode)
+    line = (*got, share_of(side, d, dowels), share_of(middle, d, dowels), *more)
     cases.append(((d, *force, *side, *middle, len(dowels), *[c for p in dowels for c in p]), line))
     return line
 
@@ -82,11 +94,11 @@ wide = lambda grain: (grain, *ROOM)
 # Joint B of 01 and its variants (outputs printed in 01)
 B1, B2 = (0, -840, -360, 20000, 720), (0, -20000, -360, 1440, 720)
 BD = [(0, 0), (600, 0), (0, 360), (600, 360)]
-assert case(12, (20000, 0), B1, B2, BD, (0, 0, 0, 0))[4] in (7346, 7347)
+assert case(12, (20000, 0), B1, B2, BD, (0, 0, 0, 0), (0, 0, 0, 0))[4] in (7346, 7347)
 case(12, (20000, 0), B1, B2, [(0, 0), (599, 0), (0, 360), (599, 360)], (10, 1, 1, 2))
 case(12, (20000, 0), B1, (0, -20000, -360, 1439, 720), BD, (11, 2, 2, 0))
 case(12, (20000, 0), (0, -840, -360, 20000, 719), B2, BD, (12, 1, 3, 0))
-assert case(12, (3000, 0), B1, B2, [(0, 0)], (0, 0, 0, 0))[4:] == (10000, 10000)
+assert case(12, (3000, 0), B1, B2, [(0, 0)], (0, 0, 0, 0))[4:6] == (10000, 10000)
 case(12, (3000, 4000), wide(0), wide(0), [(0, 0), (504, 0)], (0, 0, 0, 0))
 case(12, (3000, 4000), wide(0), wide(0), [(0, 0), (503, 0)], (10, 1, 1, 2))
 
@@ -166,12 +178,34 @@ case(12, (120000, -170000), wide(0), wide(1), stair)
 # rows of dowels out of line: less than d apart, d apart; a dowel in two rows, drawn upwards and downwards; the closest pair neighbours
 # neither in the list nor across; grains that differ; each of 64 within reach of the next
 for apart, share in ((119, 7347), (120, 10000)):
-    assert case(12, (1000, 0), wide(0), wide(0), [(0, 0), (600, apart)])[4:] == (share, share)
+    assert case(12, (1000, 0), wide(0), wide(0), [(0, 0), (600, apart)])[4:6] == (share, share)
 for way in (1, -1):
-    assert case(12, (1000, 0), wide(0), wide(0), [(0, 0), (3000, way * 100), (3600, way * 200)])[4:] == (7347, 7347)
-assert case(12, (1000, 0), wide(0), wide(0), [(0, 0), (3000, 60), (600, 119), (4000, 120)])[4:] == (7055, 7055)
-assert case(12, (3, 4), wide(0), wide(1), [(0, 0), (900, 100), (100, 600), (1000, 700)], (0, 0, 0, 0))[4:] == (8131, 7347)
-assert case(12, (1000, 0), wide(0), wide(0), [(k * 600 - 19000, k * 100) for k in range(64)])[4:] == (7347, 7347)
+    assert case(12, (1000, 0), wide(0), wide(0), [(0, 0), (3000, way * 100), (3600, way * 200)])[4:6] == (7347, 7347)
+assert case(12, (1000, 0), wide(0), wide(0), [(0, 0), (3000, 60), (600, 119), (4000, 120)])[4:6] == (7055, 7055)
+assert case(12, (3, 4), wide(0), wide(1), [(0, 0), (900, 100), (100, 600), (1000, 700)], (0, 0, 0, 0))[4:6] == (8131, 7347)
+assert case(12, (1000, 0), wide(0), wide(0), [(k * 600 - 19000, k * 100) for k in range(64)])[4:6] == (7347, 7347)
+# each edge by Eurocode, loaded and not, of each member, at its limit and a tenth below: sin α 0, 3/5, 4/5, 1, irrational, 1 N across;
+# the last limit lies 5e-14 tenths above 436
+for d, force in ((12, (3, 4)), (12, (-4000, 3000)), (6, (1, 0)), (30, (0, -1)), (10, (1, 1)), (20, (-7, 3)), (16, (1, 1000000)),
+                 (16, (-1000000, -1)), (30, (-1000000, 999999)), (24, (5, -12)), (7, (-20, -21)), (30, (866025, 500000)), (30, (866026, 500000)), (11, (164633, 851525))):
+    for grain in (0, 1):
+        put = (lambda a, b: (a, b)) if grain == 0 else (lambda a, b: (b, a))
+        for which in (1, 2):
+            for side in (-1, 1):
+                outline = lambda z: (grain, *put(-FAR, -z if side < 0 else -FAR), *put(FAR, FAR if side < 0 else z))
+                z = least(lambda z: verdict_of(which, outline(z), d, force, [put(0, 0)], True) is None)
+                for at in (z, z - 1):
+                    members = (outline(at), wide(grain)) if which == 1 else (wide(grain), outline(at))
+                    case(d, force, *members, [put(0, 0)], None, (0, 0, 0, 0) if at == z else (12, which, 1, 0))
+# grains that differ: sin α is 3/5 in member 1 and 4/5 in member 2
+for x0, y1, told in ((-320, 360, (0, 0, 0, 0)), (-319, 360, (12, 1, 1, 0)), (-320, 359, (12, 2, 1, 0))):
+    case(10, (3000, 4000), (1, x0, -FAR, FAR, FAR), (0, -FAR, -FAR, FAR, y1), [(0, 0)], (0, 0, 0, 0), told)
+# 3d where sin α is a hair below 1/2, a tenth more where it is a hair above; member 1's lower edge as member 2's upper one
+for fx, z in ((866025, 901), (866026, 900)):
+    for at in (z, z - 1):
+        refused = at < z
+        case(30, (fx, 500000), wide(0), (0, -FAR, -FAR, FAR, at), [(0, 0)], None, (12, 2, 1, 0) if refused else (0, 0, 0, 0))
+        case(30, (fx, 500000), (0, -FAR, -at, FAR, FAR), wide(0), [(0, 0)], None, (12, 1, 1, 0) if refused else (0, 0, 0, 0))
 # 64 dowels
 case(6, (1000, 0), wide(0), wide(0), [(k % 8 * 300, k // 8 * 180) for k in range(64)])
 case(6, (1000, 0), wide(0), wide(0), [(k % 8 * 300, k // 8 * 180) for k in range(63)] + [(7 * 300 - 1, 7 * 180)])

@@ -90,8 +90,12 @@ case("64-into-589", 13, 589, many, many[::-1])
 case("one-into-86", 0, 86, [-100000], [100000])
 case("one-into-85", 13, 85, [-100000], [100000])
 
-# ---- 2, and before 7
-for n in (0, 2, 9, -1, 256, 257, 65536, 65537, LEAST, MOST):
+# ---- 1 and 2 are written as they are named; any other version is a 2, and before 7
+case("version-2", 0, version=2)
+case("version-2-64-into-590", 0, 590, many, many[::-1], version=2)
+case("version-2-class-0", 7, version=2, class1=0)
+case("version-2-no-room", 13, room=0, version=2)
+for n in (0, 3, 9, -1, 256, 257, 258, 512, 65535, 65536, 65537, 65538, LEAST, MOST):
     case(f"version-{n}", 2, version=n)
 case("version-9-class-0", 2, version=9, class1=0)
 case("version-9-no-dowels", 2, x=[], y=[], version=9)
@@ -150,10 +154,11 @@ case("class-0-no-room", 7, 0, class1=0)
 case("dowels-599", 0, x=[0, 599, 0, 599])
 case("dowels-at-one-place", 0, x=[0, 0, 0, 0], y=[0, 0, 0, 0])
 
-# ---- what version 1 has no field for is not looked at
+# ---- what versions 1 and 2 have no field for is not looked at
 case("gx-gy-plate", 0, gx1=1, gy1=LEAST, gx2=MOST, gy2=-1, plate=700)
 case("marks", 0, marks=[1, 0, 9, LEAST])
 case("80-marks", 0, marks=[5] * 80)
+case("version-2-gx-gy-plate-marks", 0, version=2, gx1=1, gy1=LEAST, gx2=MOST, gy2=-1, plate=700, marks=[1, 0, 9, LEAST])
 
 # ---- lengths of the fields
 case("26-fields", 0, fields=26)
@@ -168,7 +173,12 @@ signs = [1, 1] + [11, 1, 0, 0, 4000, -100000, -99999, -1, 0] + [9, 0, 0, 0, 200,
 record("signs", 0, bytes_of(signs, many, many, (3, 1, 4, 2)), signs, many, many)
 record("19-bytes", 1, b[:19])
 record("no-bytes", 1, b"")
-record("record-version-2", 2, b"\2" + b[1:])
+in_version_2 = [2] + B[1:]
+record("record-version-2", 0, b"\2" + b[1:], in_version_2)
+record("record-version-2-parts-4321", 0, bytes_of(in_version_2, X, Y, (4, 3, 2, 1)), in_version_2)
+record("record-version-3", 2, b"\3" + b[1:])
+record("record-version-257", 2, b"\1\1" + b[2:])
+record("record-version-258", 2, b"\2\1" + b[2:])
 record("three-pairs", 3, b[:2] + b"\3" + b[3:])
 record("pair-too-long", 4, b[:6] + b"\53" + b[7:])
 record("kind-twice", 5, b[:62] + b"\1" + b[63:])

@@ -6,7 +6,7 @@
 
 #include "negwishal.h"
 
-enum { LEAST = 20, MOST = 400, ROOM = 600 }; /* a record of version 1 has up to 590 bytes */
+enum { LEAST = 20, MOST = 400, ROOM = 600 }; /* a record of version 1 or 2 has up to 590 bytes */
 
 /* Judges the values with a thickness of member 1 in whole millimetres: 0 where they make no record, which does not happen to values that
  * were read. */

@@ -1,4 +1,4 @@
-"""The engineer: an exact reference for document 01 with requests A1 to A6 of 02, written from these documents alone.
+"""The engineer: an exact reference for document 01 with requests A1 to A7 of 02, written from these documents alone.
 
 Whole numbers and fractions only.  Reference(record) settles the refusal or the
 exact quantities once; its check(line) says whether an output line is right.
@@ -22,6 +22,8 @@ K90 = {SOFTWOOD: (1350, 15), HARDWOOD: (900, 15)}             # thousandths, and
 FU = (None, 360, 430, 510)                                    # steels 1 to 3, N/mm2
 KMOD_1_2 = (None, 60, 70, 80, 90, 110)                        # hundredths, durations 1 to 5
 KMOD_3 = (None, 50, 55, 65, 70, 90)
+VERSIONS = (1, 2)                                             # known; edges by EN 1995-1-1, Table 8.5 from 2 on
+LOADED_EDGES = 2
 PROGRAM_LIMIT = 4096
 BITS = 32                                                     # finer part of the quick brackets
 
@@ -91,7 +93,7 @@ def did_load(loaded):
 
 class Joint:
     """The values of a record that passes 1 to 9."""
-    __slots__ = ("p", "cls", "grain", "t", "outline", "d", "steel", "dowels",
+    __slots__ = ("version", "p", "cls", "grain", "t", "outline", "d", "steel", "dowels",
                  "service", "duration", "fx", "fy")
 
 
@@ -101,7 +103,7 @@ def read(data, loaded=PRINTED):
         return loaded
     if len(data) < 20:
         return 1
-    if _u16(data, 0) != 1:
+    if _u16(data, 0) not in VERSIONS:
         return 2
     if _u16(data, 2) != 4:
         return 3
@@ -123,6 +125,7 @@ def read(data, loaded=PRINTED):
         return 6
 
     j = Joint()
+    j.version = _u16(data, 0)
     j.p = members[1]
     j.cls = (members[2], members[22])
     j.grain = (members[3], members[23])
@@ -160,7 +163,7 @@ def value_fault(j, loaded):
 
 # ------------------------------------------------------- values to bytes and back
 
-# The numbers handed over, in order; 'None' has no field in version 1.
+# The numbers handed over, in order; 'None' has no field in versions 1 and 2.
 HANDED = ("version", "p",
           *(name and "%s %d" % (name, m) for m in (1, 2)
             for name in ("class", "grain", None, None, "thickness", "x0", "y0", "x1", "y1")),
@@ -173,7 +176,7 @@ def joint_of(fields, x, y):
     """The values handed over, as a Joint; x and y of one length."""
     v = dict(zip(HANDED, fields))
     j = Joint()
-    j.p, j.d, j.steel = v["p"], v["d"], v["steel"]
+    j.version, j.p, j.d, j.steel = v["version"], v["p"], v["d"], v["steel"]
     j.cls, j.grain, j.t = ((v[name + " 1"], v[name + " 2"]) for name in ("class", "grain", "thickness"))
     j.outline = tuple(tuple(v["%s %d" % (limit, m)] for limit in ("x0", "y0", "x1", "y1")) for m in (1, 2))
     j.dowels = list(zip(x, y))
@@ -193,7 +196,7 @@ def record_of(j):
     dowel = _le(2, 1) + _le(j.d, 1) + _le(j.steel, 1)
     places = _le(3, 1) + _le(len(j.dowels), 1) + b"".join(_le(x, 4) + _le(y, 4) for x, y in j.dowels)
     loads = _le(4, 1) + _le(j.service, 1) + _le(j.duration, 1) + _le(j.fx, 4) + _le(j.fy, 4)
-    at, head, body = 20, _le(1, 2) + _le(4, 2), b""
+    at, head, body = 20, _le(j.version, 2) + _le(4, 2), b""
     for part in (members, dowel, places, loads):
         head += _le(at, 2) + _le(len(part), 2)
         at += len(part)
@@ -202,10 +205,10 @@ def record_of(j):
 
 
 def written(fields, x, y, room, loaded=PRINTED):
-    """(refusal, record): one of the two is 0 or empty.  The marks have no field in version 1."""
+    """(refusal, record): one of the two is 0 or empty.  The marks have no field in versions 1 and 2."""
     if not did_load(loaded):
         return loaded, b""
-    if fields[0] != 1:
+    if fields[0] not in VERSIONS:
         return 2, b""
     if len(x) != len(y):
         return 7, b""
@@ -230,7 +233,7 @@ def values_of(data, loaded=PRINTED):
     j = read(data, loaded)
     if not isinstance(j, Joint):
         return j, 0, [0] * PLACES, [0] * DOWELS, [0] * DOWELS, [0] * DOWELS
-    fields = [1, j.p]
+    fields = [j.version, j.p]
     for m in (0, 1):
         fields += [j.cls[m], j.grain[m], 0, 0, j.t[m], *j.outline[m]]
     fields += [j.d, j.steel, 0, j.service, j.duration, j.fx, j.fy]
@@ -247,7 +250,7 @@ def after_read(data, fields, x, y, marks, answer, loaded=PRINTED):
 
 
 def normal(fields):
-    """What reads back of the fields written: 0 where version 1 has no field."""
+    """What reads back of the fields written: 0 where versions 1 and 2 have no field."""
     return [number if name else 0 for name, number in zip(HANDED, fields)]
 
 
@@ -267,8 +270,8 @@ def components(j, m):
 
 
 def needed(j, m):
-    """Least whole tenths that satisfy each rule of Table 8 in member m:
-    pair along, pair across, low end, high end, edges."""
+    """Least whole tenths that satisfy each rule of the version's table in member m:
+    pair along, pair across, low end, high end, low edge, high edge."""
     d = j.d
     along, across = components(j, m)
     f2 = j.fx * j.fx + j.fy * j.fy
@@ -278,13 +281,18 @@ def needed(j, m):
     other = max(least_root(4900 * d * d * across * across, f2), 30 * d)
     low = loaded if along < 0 else other
     high = loaded if along > 0 else other
-    return pair, 30 * d, low, high, 30 * d
+    left = right = 30 * d
+    if j.version >= LOADED_EDGES and across != 0:
+        # z - 20d >= 20d sin, squared and exact; and 3d
+        edge = max(20 * d + least_root(400 * d * d * across * across, f2), 30 * d)
+        left, right = (edge, right) if across < 0 else (left, edge)
+    return pair, 30 * d, low, high, left, right
 
 
 def spacing(j):
     """The refusal 10 to 12 with its place, or None."""
     for m in (0, 1):
-        pair_along, pair_across, low_end, high_end, edge = needed(j, m)
+        pair_along, pair_across, low_end, high_end, low_edge, high_edge = needed(j, m)
         x0, y0, x1, y1 = j.outline[m]
         if j.grain[m] == 0:
             along, across = [x for x, _ in j.dowels], [y for _, y in j.dowels]
@@ -303,7 +311,7 @@ def spacing(j):
             if a - a0 < low_end or a1 - a < high_end:
                 return 11, m + 1, i + 1, 0
         for i, c in enumerate(across):
-            if c - c0 < edge or c1 - c < edge:
+            if c - c0 < low_edge or c1 - c < high_edge:
                 return 12, m + 1, i + 1, 0
     return None
 
@@ -658,7 +666,7 @@ ANSWER = re.compile(r"(fits|overloaded) (0|[1-9][0-9]*) (0|[1-9][0-9]*) (0|[1-9]
 
 
 class Reference:
-    """What document 01 says of one record.  With program=False the 4,096 bytes of the
+    """What documents 01 and 02 say of one record.  With program=False the 4,096 bytes of the
     program are no rule (the library judges any length)."""
 
     def __init__(self, data, program=True, loaded=PRINTED):

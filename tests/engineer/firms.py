@@ -10,6 +10,7 @@ from itertools import product
 from random import Random
 import struct
 
+import records
 import tables
 import values
 from judge import Shared
@@ -146,6 +147,8 @@ SOUND = (("two", stretch(TWO)), ("three", stretch(THREE)), ("the printed ones", 
          ("1 alone", stretch([(1, HARD, 700)])), ("255 alone", stretch([(255, SOFT, 290)])), ("all codes", stretch(FULL)),
          ("the printed codes, other woods", stretch([(c, 1 - kind, 1390 - d) for c, kind, d in PRINTED_ENTRIES])))
 FAULTY = (("density 289", stretch([(3, SOFT, 289), (200, HARD, 900)])), ("kind 2", stretch([(3, 2, 350)])),
+          ("kind 255", stretch([(3, 255, 350)])),
+          ("the third code above the first alone", stretch([(1, SOFT, 350), (9, HARD, 530), (5, HARD, 900)])),
           ("density 1,101 last", stretch([(3, SOFT, 350), (200, HARD, 1101)])),
           ("code 0", stretch([(0, SOFT, 350), (9, HARD, 530)])), ("code 0 last", stretch([(200, SOFT, 350), (0, SOFT, 350)])),
           ("equal codes", stretch([(7, SOFT, 350), (7, HARD, 900)])),
@@ -200,6 +203,10 @@ def firm_items():
 
 def record_items():
     """(label, Shared, record)"""
+    return records.halved(plain_record_items())
+
+
+def plain_record_items():
     for (name, table), (what, data), firm in product(TURNED_AWAY, tables.refused_records(), (1, 2, 0, 257)):
         yield "order, %s for %d with %s" % (name, firm, what), Shared(firm, table), data
     for n, (label, table, codes) in enumerate(firm_items()):
@@ -208,6 +215,10 @@ def record_items():
 
 def value_items():
     """(label, Shared, item of values.py)"""
+    return values.halved(plain_value_items())
+
+
+def plain_value_items():
     for (name, table), firm in product(TURNED_AWAY, (1, 2, 0, 257)):
         for what, change in values.FAULTS:
             it = values.item(joint_b())

@@ -48,6 +48,7 @@ class Model:
     fu = {1: 360, 2: 430, 3: 510}
     kmod_dry = (60, 70, 80, 90, 110)
     kmod_wet = (50, 55, 65, 70, 90)
+    versions = (1, 2)       # that are read
     value_tests = ("test_fields", "test_outlines", "test_force")
     layout_tests = ("test_version", "test_count", "test_pairs")
     part_tests = ("test_kinds", "test_lengths")
@@ -276,7 +277,7 @@ class Model:
             getattr(self, test)()
 
     def test_version(self):
-        if self.u16(0) != 1:
+        if self.u16(0) not in self.versions:
             raise Refused(2)
 
     def test_count(self):
@@ -322,6 +323,7 @@ class Model:
 
     def take_values(self):
         data = self.data
+        self.version = self.u16(0)
         o = self.parts[1][0]
         self.p = data[o + 1]
         self.cls = [data[o + 2], data[o + 22]]
@@ -375,7 +377,7 @@ class Model:
     # ---- writing (02, A2), with the reader's tests of values
 
     needs = {"fields": 27, "positions": 64, "answer": 2}
-    known = (1,)
+    known = (1, 2)          # versions that are written
     writer_tests = ("test_table", "test_known", "test_lists") + value_tests + ("test_room",)
     kind_order = (1, 2, 3, 4)
 
@@ -483,7 +485,7 @@ class Model:
         return 0
 
     def handed_back(self):
-        out = [self.u16(0), self.p]
+        out = [self.version, self.p]
         for m in self.members:
             out += [self.cls[m], self.grain[m], *self.no_field(), self.t[m], *self.outline[m]]
         return out + [self.d, self.steel, self.no_field()[0], self.service, self.duration, *self.force]
@@ -624,8 +626,41 @@ class Model:
         """component: of the force in the member, towards this end."""
         return component > 0
 
-    def edge(self, c):
+    def has_loaded_edges(self):
+        """02, A7"""
+        return self.version >= 2
+
+    def edge_sign(self, m):
+        return self.sign(m)
+
+    def edge_axes(self, m, xy):
+        return self.axes(m, xy)
+
+    def edge_squares(self, m):
+        return self.squares(m)
+
+    def edge_is_loaded(self, component, m):
+        """component: of the force in the member, towards this edge."""
+        return component > 0
+
+    def edge_3d(self, c):
         return c >= 30 * self.d
+
+    def edge_sine(self, c, m):
+        """(2 + 2 sin) d"""
+        _, c2, f2 = self.edge_squares(m)
+        over = c - 20 * self.d
+        return over >= 0 and over * over * f2 >= 400 * self.d * self.d * c2
+
+    def loaded_edge(self, c, m):
+        return self.edge_3d(c) and self.edge_sine(c, m)
+
+    def other_edge(self, c, m):
+        return self.edge_3d(c)
+
+    def edge(self, c, m, component):
+        loaded = self.has_loaded_edges() and self.edge_is_loaded(component, m)
+        return self.loaded_edge(c, m) if loaded else self.other_edge(c, m)
 
     def test_pairs_of_dowels(self, m):
         along_across = [self.axes(m, xy) for xy in self.xy]
@@ -656,9 +691,10 @@ class Model:
     def test_edges(self, m):
         x0, y0, x1, y1 = self.outline[m]
         low, high = self.axes(m, (x0, y0))[1], self.axes(m, (x1, y1))[1]
+        force = self.edge_sign(m) * self.edge_axes(m, self.force)[1]
         for i in self.in_order():
             c = self.axes(m, self.xy[i])[1]
-            if not (self.edge(c - low) and self.edge(high - c)):
+            if not (self.edge(c - low, m, -force) and self.edge(high - c, m, force)):
                 raise Refused(12, m + 1, i + 1, 0)
 
     # ---- capacity

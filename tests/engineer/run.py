@@ -21,7 +21,7 @@ import records
 import roots
 import tables
 import values
-from written import check_alike, check_line, check_load, check_read, check_roots, check_write
+from written import check_alike, check_line, check_load, check_read, check_roots, check_versions, check_write
 from wrong import WRONG, WRONG_FIRMS, WRONG_ROOTS, WRONG_TABLES, WRONG_WRITERS
 
 
@@ -228,7 +228,8 @@ def run_wrong(seed, count, only):
             continue
         program = judge.StandIn(cls)
         for n, label, data, reference in kept:
-            found = reference.check(program.judge(data))
+            line = program.judge(data)
+            found = first_fault(lambda: reference.check(line), lambda: check_versions(program, data, line))
             if found is not True:
                 print("%-16s %-58s %8d  (%s) %s" % (group, name, n, label, found))
                 break
@@ -384,10 +385,10 @@ def main():
             show(a.seed, a.show)
         return 0
     if a.wrong:
-        missed = run_wrong(a.seed, a.count or 25000, a.only)
+        missed = run_wrong(a.seed, a.count or 30000, a.only)
         missed += run_wrong_writers(a.seed, a.count or 8000, a.only)
         missed += run_wrong_tables(a.seed, a.count or 5000, a.only)
-        missed += run_wrong_tables(a.seed, a.count or 10000, a.only, firms, WRONG_FIRMS)
+        missed += run_wrong_tables(a.seed, a.count or 11000, a.only, firms, WRONG_FIRMS)
         missed += run_wrong_roots(a.seed, a.count or 5000, a.only)
         return 1 if missed else 0
     if a.library:

@@ -1,4 +1,5 @@
-"""same.py OLD.so NEW.so [--count N] [--seed S]: whether two libraries give the same line for every record.
+"""same.py OLD.so NEW.so [--count N] [--seed S] [--version V]: whether two libraries give the same line for every record, or for
+those of a version.
 
 For a change that must change no answer. Prints the first records that differ and a summary; exit status 1 if any does.
 """
@@ -13,11 +14,14 @@ words.add_argument("old")
 words.add_argument("new")
 words.add_argument("--count", type=int, default=100000)
 words.add_argument("--seed", type=int, default=1)
+words.add_argument("--version", type=int, help="records of this version only")
 asked = words.parse_args()
 
 old, new = judge.Library(asked.old), judge.Library(asked.new)
 done = differ = accepted = 0
 for label, data in records.stream(asked.seed, asked.count):
+    if asked.version is not None and int.from_bytes(data[:2], "little") != asked.version:
+        continue
     before, after = old.judge(data), new.judge(data)
     done += 1
     accepted += not before.startswith("refused")

@@ -17,6 +17,14 @@ HEAD = """\
 # included (U, C and E in this order); a verdict follows from U: fits up to 10,000.
 """
 
+# above the line of eurocode-b
+NOTES = {"eurocode-b": """\
+# Records of version 2: edges by EN 1995-1-1, Table 8.5.  The force in joint B runs along the grain, no edge is loaded, and its
+# line is the same.  In loaded-edge two hangers pull down at the beam between them, with 12 mm dowels: the beam's lower edge is
+# loaded and needs (2 + 2 sin 90) 12 = 48 mm, but is 36 mm below dowel 1.  In version 1, loaded-edge-v1, these 36 mm are enough;
+# in version 2 a beam that is 12 mm higher, loaded-edge-480.
+"""}
+
 OWN_HEAD = """\
 # The line that each record gives by the table in own-table.tab, as lines.txt has those by the
 # printed table.  Of the printed classes it has 1 and 9, and no more.
@@ -37,7 +45,7 @@ THICKNESS_HEAD = """\
 # The least thickness of member 1 in whole mm, from 20 to 400, with which each record fits, and its
 # line then, as in lines.txt; of records for which no free figure can change the thickness.
 """
-THICKNESSES = ("joint-b", "t1-200", "pair-504", "force-27000", "out-of-line", "dowels-599", "no-force")
+THICKNESSES = ("joint-b", "t1-200", "pair-504", "force-27000", "out-of-line", "dowels-599", "no-force", "loaded-edge")
 
 # the sawmill of examples/write_own_table.py
 SAWMILL = [(1, tables.SOFT, 372), (9, tables.HARD, 580), (200, tables.HARD, 660)]
@@ -46,9 +54,10 @@ OWN = tables.assemble(SAWMILL)
 SHARED = firms.assemble(firms.stretch(SAWMILL), firms.stretch([(1, tables.SOFT, 350), (200, tables.SOFT, 440)]))
 
 
-def lines(head, loaded):
+def lines(head, loaded, notes={}):
+    """The head, then the line of each record, with what is said above it."""
     for name, data, _ in records.samples():
-        head += "%s: %s\n" % (name, engineer.Reference(data, loaded=loaded).describe())
+        head += "%s%s: %s\n" % (notes.get(name, ""), name, engineer.Reference(data, loaded=loaded).describe())
     return head.encode()
 
 
@@ -72,7 +81,7 @@ def thickness_line(name, data):
 def files():
     for name, data, _ in records.samples():
         yield name + ".rec", data
-    yield "lines.txt", lines(HEAD, engineer.PRINTED)
+    yield "lines.txt", lines(HEAD, engineer.PRINTED, NOTES)
     yield "own-table.tab", OWN
     yield "printed-table.tab", tables.PRINTED
     yield "shared-table.tab", SHARED

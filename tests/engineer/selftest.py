@@ -1,12 +1,12 @@
 """Tests of the engineer itself: against the figures that document 01 prints, a joint of D30, joints out of line and
-graded ones worked out by the formulas, and against their sentences taken literally with fractions, A3's with all sets
-of dowels; of its writer, its tables, its firms and its roots against 02's sentences on A2, A4, A6 and A5.
+graded ones and loaded edges worked out by the formulas, and against their sentences taken literally with fractions, A3's with all
+sets of dowels; of its writer, its tables, its firms and its roots against 02's sentences on A2, A4, A6 and A5.
 
   selftest.py [--count N] [--seed S]     with N records made by chance
 """
 import argparse
 from fractions import Fraction
-from itertools import combinations
+from itertools import combinations, product
 from math import isqrt
 from random import Random
 import struct
@@ -48,7 +48,7 @@ def rows_of(across, d):
 
 
 class Literal:
-    """Document 01 word for word, in fractions, with 02's rows and the woods of a table."""
+    """Document 01 word for word, in fractions, with 02's rows and loaded edges and the woods of a table."""
 
     def __init__(self, j, woods=WOODS):
         self.j = j
@@ -138,6 +138,17 @@ class Literal:
         sin2 = 1 - Fraction(force ** 2) / self.f2
         return dist >= 3 * d and dist >= 0 and Fraction(dist) ** 2 >= 49 * d * d * sin2
 
+    def edge_passes(self, dist, m, towards):
+        """02, A7: 'a loaded edge needs (2 + 2 sin α) d and at least 3d'; 'the edge towards which the force in that member has a
+        component is the loaded one, and the other needs 3d'; in version 1, 01: 'Both edges: at least 3d'."""
+        d = 10 * self.j.d
+        force = (self.j.fy, self.j.fx)[self.j.grain[m]] * (1 if m == 1 else -1)
+        if self.j.version == 1 or force * towards <= 0:
+            return dist >= 3 * d
+        sin2 = Fraction(force ** 2) / self.f2
+        # (2 + 2 sin) d is above dist where 2d is, or where (2 sin d) squared is above what dist has more than 2d, squared
+        return dist >= 3 * d and Fraction(dist - 2 * d) ** 2 >= 4 * sin2 * d * d
+
     def spacing(self):
         j = self.j
         for m in (0, 1):
@@ -153,7 +164,8 @@ class Literal:
                         and self.end_passes(x[axis + 2] - xy[axis], m, 1)):
                     return 11, m + 1, i + 1, 0
             for i, xy in enumerate(j.dowels):
-                if xy[1 - axis] - x[1 - axis] < 30 * j.d or x[3 - axis] - xy[1 - axis] < 30 * j.d:
+                if not (self.edge_passes(xy[1 - axis] - x[1 - axis], m, -1)
+                        and self.edge_passes(x[3 - axis] - xy[1 - axis], m, 1)):
                     return 12, m + 1, i + 1, 0
         return None
 
@@ -184,6 +196,70 @@ def hardwood():
     for kind, said in ((tables.HARD, (8810, 8811)), (tables.SOFT, (7401, 7402))):
         loaded = engineer.load(tables.assemble([(9, kind, 530)]))
         assert engineer.Reference(data, loaded=loaded).values().ranges()[1] == said, kind
+
+
+# One dowel: d, the force along and across a member's grain, and what the edge needs towards which it has the component
+# across, in tenths; by hand
+LOADED_EDGES = (
+    (12, 1000, 0, 360),                                             # sin 0: 3d, as up to sin 1/2
+    (12, 1000000, 1, 360), (12, 954, 300, 360), (12, 12, 5, 360), (25, 24, 7, 750), (17, 15, 8, 510),
+    (12, 4, 3, 384), (30, 4000, 3000, 960), (6, 4, 3, 192),         # sin 3/5: 3.2 d
+    (12, 300, 400, 432), (30, 3, 4, 1080),                          # sin 4/5: 3.6 d
+    (12, 0, 1, 480), (30, 0, 1000000, 1200),                        # sin 1: 4d
+    (12, 1, 1000000, 480),                                          # a hair below 48 mm
+    (13, 5, 12, 500), (12, 5, 12, 462),                             # sin 12/13: 26 + 24 mm; 46.15.. mm
+    (25, 7, 24, 980), (17, 8, 15, 640), (29, 21, 20, 980), (29, 20, 21, 1000),      # 50 + 48, 34 + 30, 58 + 40, 58 + 42 mm
+    (12, 1, 1, 410), (30, 1, 1, 1025), (30, 999999, 1000000, 1025),                 # 3.4142.. d: 40.97.., 102.42.. mm
+    (30, 577350, 1000000, 1120),                                    # 111.96.. mm
+    (30, 866025, 500000, 901), (30, 866026, 500000, 900),           # sin a hair above and below 1/2
+    # 220**2 851525**2 is above 216**2 (164633**2 + 851525**2), by 16: 220 sin is a hair above 216
+    (11, 164633, 851525, 437), (26, 504622, 686573, 940), (21, 434547, 808984, 790),
+)
+
+
+def loaded_edges():
+    """Request A7: the figures above in both versions, at either edge of either member, with either grain; joint B; the record's
+    version through writer and reader."""
+    for (d, along, across, least), m, grain, turn, version in product(LOADED_EDGES, (0, 1), (0, 1), (1, -1), (1, 2)):
+        # member 1 gets the opposite of the force; turned round it is the low edge that is loaded
+        sign = turn if m == 1 else -turn
+        force = sign * along, sign * across
+        for side in (0, 1):
+            loaded = version == 2 and side == (turn > 0)
+            wanted = least if loaded else 30 * d
+            for distance in (wanted - 1, wanted):
+                data = records.write(records.by_edge(
+                    m, side, distance, (grain, grain), version=version, d=d, force=force[::-1] if grain else force))
+                found = engineer.Reference(data).refusal
+                assert found == ((12, m + 1, 1, 0) if distance < wanted else None), (
+                    d, along, across, m, grain, turn, version, side, distance, found)
+    samples = {name: data for name, data, _ in records.samples()}
+    b, hung = samples["joint-b"], samples["loaded-edge"]
+    assert samples["eurocode-b"] == b"\2" + b[1:] and samples["loaded-edge-v1"] == b"\1" + hung[1:]
+    assert engineer.Reference(samples["eurocode-b"]).describe() == engineer.Reference(b).describe()
+    assert engineer.Reference(samples["loaded-edge-480"]).describe() == engineer.Reference(samples["loaded-edge-v1"]).describe()
+    for version in (*range(20), *records.UNKNOWN_VERSIONS):
+        data = records.in_version(b, version)
+        line = engineer.Reference(data).describe()
+        assert line == engineer.Reference(b).describe() if version in (1, 2) else line == "refused 2 0 0 0", version
+        number, n, fields, x, y, _ = engineer.values_of(data)
+        assert (number, fields[0]) == ((0, version) if version in (1, 2) else (2, 0)), version
+        if number == 0:
+            assert engineer.written(fields, x[:n], y[:n], 110) == (0, data), version
+    for one, two, same in COMPARED:
+        assert written.asked_more(one + "\n", two + "\n") == same, (one, two)
+
+
+# lines of a record in version 1 and in version 2, and whether a loaded edge may have made the difference
+COMPARED = (
+    ("fits 1 2 3", "refused 12 1 1 0", True), ("overloaded 10001 2 3", "refused 12 2 64 0", True),
+    ("refused 12 1 3 0", "refused 12 1 2 0", True), ("refused 12 1 2 0", "refused 12 1 3 0", False),
+    ("refused 12 2 1 0", "refused 12 1 3 0", True), ("refused 10 2 1 2", "refused 12 1 4 0", True),
+    ("refused 11 2 1 0", "refused 12 1 4 0", True), ("refused 11 2 1 0", "refused 12 2 1 0", False),
+    ("refused 11 1 1 0", "refused 12 2 1 0", False), ("refused 7 0 0 0", "refused 12 1 1 0", False),
+    ("fits 1 2 3", "fits 2 2 3", False), ("fits 1 2 3", "overloaded 1 2 3", False), ("fits 1 2 3", "refused 11 1 1 0", False),
+    ("fits 1 2 3", "refused 2 0 0 0", False), ("refused 12 1 1 0", "fits 1 2 3", False), ("refused 2 0 0 0", "fits 1 2 3", False),
+)
 
 
 # a table in hexadecimal, and the number at loading; by hand
@@ -219,7 +295,7 @@ def graded():
     # a table that did not load comes before every test
     _, _, fields, x, y, _ = engineer.values_of(b)
     for number in (14, 15):
-        for data in (b"", b, b[:19], b"\2" + b[1:], bytes(5000)):
+        for data in (b"", b, b[:19], b"\2" + b[1:], b"\3" + b[1:], bytes(5000)):
             assert engineer.Reference(data, loaded=number).describe() == "refused %d 0 0 0" % number
             assert engineer.values_of(data, number) == (number, 0, [0] * 27, [0] * 64, [0] * 64, [0] * 64)
         lent = [9] + fields[1:], x[:4], y[:3], []
@@ -513,10 +589,10 @@ def literal(seed, items):
 
 
 def packed(fields, x, y):
-    """A version 1 record, each part by its format."""
+    """A record of version 1 or 2, each part by its format."""
     n = len(x)
-    _, p, *members, d, steel, _, service, duration, fx, fy = fields[:27]
-    out = struct.pack("<10H", 1, 4, 20, 42, 62, 3, 65, 2 + 8 * n, 67 + 8 * n, 11) + struct.pack("<BB", 1, p)
+    version, p, *members, d, steel, _, service, duration, fx, fy = fields[:27]
+    out = struct.pack("<10H", version, 4, 20, 42, 62, 3, 65, 2 + 8 * n, 67 + 8 * n, 11) + struct.pack("<BB", 1, p)
     for at in (0, 9):
         cls, grain, _, _, t, x0, y0, x1, y1 = members[at:at + 9]
         out += struct.pack("<BBHiiii", cls, grain, t, x0, y0, x1, y1)
@@ -526,13 +602,13 @@ def packed(fields, x, y):
 
 
 def first_fault(fields, x, y, room, codes=tuple(WOODS)):
-    """02's A2 sentence by sentence, with the codes of a table."""
+    """02's A2 sentence by sentence, with A7's versions and the codes of a table."""
     fits = [limit is None or limit[0] <= z <= limit[1] for z, limit in zip(fields, values.LIMITS)]
     for at in (values.CLASS_1, values.CLASS_2):
         fits[at] = fields[at] in codes
     places = [-100000 <= z <= 100000 for z in x + y]
     tests = (
-        (2, not fits[0]),
+        (2, fields[0] != 1 and fields[0] != 2),
         (7, len(x) != len(y) or not 1 <= len(x) <= 64 or not all(fits[1:]) or not all(places)),
         (8, any(fields[at] >= fields[at + 2] for at in (7, 8, 16, 17))),
         (9, fields[25:27] == [0, 0]),
@@ -547,6 +623,8 @@ WRITTEN = (
     ({}, 65, 65, 4096, 7), ({}, 0, 0, 110, 7), ({}, 3, 4, 110, 7), ({}, 4, 3, 110, 7),
     ({25: 0}, 4, 4, 20, 9), ({7: 20000}, 3, 4, 110, 7), ({7: 20000}, 4, 4, 0, 8), ({7: 20000, 25: 0}, 4, 4, 110, 8),
     ({0: 9, 2: 0}, 4, 4, 110, 2), ({0: -1}, 4, 4, 110, 2), ({0: 65537}, 4, 4, 110, 2), ({0: 0}, 0, 1, 0, 2),
+    ({0: 2}, 4, 4, 110, 0), ({0: 2}, 4, 4, 109, 13), ({0: 2, 2: 0}, 4, 4, 110, 7), ({0: 3, 2: 0}, 4, 4, 110, 2),
+    ({0: 65538}, 3, 4, 0, 2), ({0: 258}, 4, 4, 110, 2), ({0: -2}, 4, 4, 110, 2), ({0: 2, 25: 0, 26: -5}, 4, 4, 110, 0),
     ({2: 257}, 4, 4, 110, 7), ({11: -1}, 4, 4, 110, 7), ({2: 11}, 4, 4, 110, 0), ({2: 12}, 4, 4, 110, 7),
     ({4: 5, 5: -7, 13: 2 ** 31 - 1, 14: -2 ** 31, 22: 300}, 4, 4, 110, 0),
 )
@@ -658,6 +736,7 @@ def main():
     a = p.parse_args()
     printed()
     hardwood()
+    loaded_edges()
     out_of_line()
     graded()
     for_firms()

@@ -1,9 +1,9 @@
 """Tables for the engineer's test (02, A4): right and faulty, systematic and by chance, each with a record or values.
 
 stream(seed, count) gives (label, table, record), value_stream(seed, count) gives (label, table, Handed): first the
-systematic ones, then the records of records.py and the values of values.py, each with a table made by chance; most get
-codes of their table for classes.  An item depends on the seed and its number alone.  A label starts with the kind of
-item and a comma.
+systematic ones, half of them in version 2, then the records of records.py and the values of values.py, each with a table
+made by chance; most get codes of their table for classes.  An item depends on the seed and its number alone.  A label
+starts with the kind of item and a comma.
 """
 from itertools import product
 from math import gcd
@@ -250,7 +250,8 @@ def refused_records():
     yield "no bytes", b""
     for name, data, want in records.samples():
         yield name, data
-    yield "version 2", b"\2" + b[1:]
+    yield "version 3", b"\3" + b[1:]
+    yield "version 258", b"\2\1" + b[2:]
     yield "pair count 5", b[:2] + b"\5" + b[3:]
     yield "kind 5", b[:62] + b"\5" + b[63:]
     yield "class 0", reclassed(b, (0, 1))
@@ -264,6 +265,10 @@ def refused_records():
 
 def record_items():
     """(label, table, record)"""
+    return records.halved(plain_record_items())
+
+
+def plain_record_items():
     for kind in (SOFT, HARD):
         yield "sample, class 1 graded as %s 900" % ("softwood", "hardwood")[kind], graded(kind), write(across_b())
     for (name, table), (what, data) in product(BAD + GOOD, refused_records()):
@@ -292,6 +297,10 @@ def record_items():
 
 def value_items():
     """(label, table, item of values.py)"""
+    return values.halved(plain_value_items())
+
+
+def plain_value_items():
     def b(classes, **change):
         it = values.item(joint_b(), **change)
         it[0][values.CLASS_1], it[0][values.CLASS_2] = classes

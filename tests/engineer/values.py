@@ -1,4 +1,4 @@
-"""Values for the writer, and what the reader writes to: systematic and by chance.
+"""Values for the writer, half of them for version 2, and what the reader writes to: systematic and by chance.
 
 stream(seed, count) gives (label, Handed), all that a call of the writer is lent, its old content
 too; lent(seed, number) gives the slices that a call of the reader writes to.  Both depend on the
@@ -10,15 +10,15 @@ from itertools import combinations
 from random import Random
 
 import records
-from records import copy, joint_b, wide_b
+from records import joint_b, wide_b
 
 # fields, x, y, marks, answer: lists of numbers; buffer: bytes
 Handed = namedtuple("Handed", "fields x y marks buffer answer")
 
 LEAST, MOST = -2 ** 31, 2 ** 31 - 1
 SIDE = ((1, 11), (0, 1), None, None, (200, 4000)) + ((-100000, 100000),) * 4
-# lowest and highest value of each place; None: no field in version 1
-LIMITS = ((1, 1), (1, 2)) + SIDE + SIDE + ((6, 30), (1, 3), None, (1, 3), (1, 5)) + ((-1000000, 1000000),) * 2
+# lowest and highest value of each place; None: no field in versions 1 and 2
+LIMITS = ((1, 2), (1, 2)) + SIDE + SIDE + ((6, 30), (1, 3), None, (1, 3), (1, 5)) + ((-1000000, 1000000),) * 2
 PLACES = len(LIMITS)
 VERSION, CLASS_1, CLASS_2, FX, FY = 0, 2, 11, 25, 26
 X0_1, X0_2 = 7, 16
@@ -30,8 +30,8 @@ def record_length(n):
 
 
 def fields_of(v):
-    """The numbers of a joint of records.py; 0 where version 1 has no field."""
-    out = [1, v["p"]]
+    """The numbers of a joint of records.py; 0 where versions 1 and 2 have no field."""
+    out = [v["version"], v["p"]]
     for m in v["members"]:
         out += [m["class"], m["grain"], 0, 0, m["t"], *m["outline"]]
     return out + [v["d"], v["steel"], 0, v["service"], v["duration"], *v["force"]]
@@ -58,11 +58,21 @@ def interesting(at):
     low, high = LIMITS[at]
     near = {low - 1, low, low + 1, high - 1, high, high + 1, -low, -high}
     far = {z + by for z in (low, high) for by in (-2 ** 24, -65536, -256, 256, 65536, 2 ** 24)}
+    if at == VERSION:
+        far |= {z for version in records.UNKNOWN_VERSIONS for z in (version, -version, version + 65536)}
     return sorted(near | far | {LEAST, LEAST + 1, -1, 0, 1, 127, 128, 255, 256, 257, 32768, 65535, 65536, 65537,
                                 MOST - 1, MOST})
 
 
 # ------------------------------------------------------------------ systematic
+
+def halved(items):
+    """The items, half of those for version 1 for version 2; but for those that try the version's own place."""
+    for n, (label, *more, it) in enumerate(items):
+        if records.in_half(n) and it[0][:1] == [1] and not label.startswith("place 0 "):
+            label, it = label + " in version 2", [[2] + it[0][1:], *it[1:]]
+        yield (label, *more, it)
+
 
 def field_items():
     for name, v in (("B", joint_b()), ("wide", wide_b(force=(-300, 400))), ("64", lattice(64))):
@@ -147,8 +157,15 @@ def both(n):
     return change
 
 
+def all_of(*changes):
+    def change(it):
+        for one in changes:
+            one(it)
+    return change
+
+
 FAULTS = (
-    *(("version %d" % z, put((VERSION, z))) for z in (9, 0, -1, 2, 257, 65537, LEAST)),
+    *(("version %d" % z, put((VERSION, z))) for z in (9, 0, -1, -2, 3, 257, 258, 65537, 65538, 131074, LEAST)),
     ("class 0", put((CLASS_1, 0))), ("class 257", put((CLASS_2, 257))), ("class -1", put((CLASS_1, -1))),
     ("grain 2", put((12, 2))), ("thickness 199", put((6, 199))), ("x0 of 100,001", put((X0_1, 100001))),
     ("y1 of -100,001", put((19, -100001))), ("planes 258", put((1, 258))), ("d 5", put((20, 5))),
@@ -160,6 +177,8 @@ FAULTS = (
     ("outline turned round", put((X0_2, 1440), (X0_2 + 2, -20000))),
     ("no force", put((FX, 0), (FY, 0))),
     ("buffer one short", shorten(1)), ("no buffer", shorten(None)),
+    ("version 3 and a fault of each number", all_of(
+        put((VERSION, 3), (CLASS_1, 0), (X0_1, 720), (X0_1 + 2, 720), (FX, 0), (FY, 0)), cut(1, -1), shorten(None))),
 )
 
 
@@ -185,6 +204,10 @@ def order_items():
 
 
 def systematic():
+    return halved(systematic_items())
+
+
+def systematic_items():
     for group in (order_items, slice_items, mark_items, buffer_items, field_items, list_items, position_items):
         for label, it in group():
             yield label, it
@@ -204,7 +227,7 @@ def some_joint(r):
     elif way < 0.8:
         v = records.at_limit(r)
     else:
-        v = copy(joint_b())
+        v = joint_b(version=r.randint(1, 2))
     if r.random() < 0.5:
         records.move(v, r)
     for _ in range(r.choice((0, 0, 0, 0, 0, 1, 2))):

@@ -1,11 +1,15 @@
 """Holds a program's answers to the engineer: its lines, what its writer and its reader of values leave in
-every slice, 02's laws of A2 from one to the other, what it says of a table, and the brackets and roots that it finds.
+every slice, 02's laws of A2 from one to the other, its lines in either version to each other, what it says of a table, and the
+brackets and roots that it finds.
 
 table: the bytes handed in, with a firm's number where they are shared, None for the entry that takes none; loaded: what
 engineer.load or load_for gives for them.  Where no table is handed in, the printed one written as a firm's must give the
 same answer; check_alike says whether other tables do.
 """
+import re
+
 import engineer
+from records import in_version
 from tables import PRINTED
 from values import Handed
 
@@ -45,6 +49,30 @@ def check_alike(call, table, others):
     return True
 
 
+REFUSAL = re.compile(r"refused ([0-9]+) ([0-9]+) ([0-9]+) [0-9]+\n")
+
+
+def asked_more(one, two):
+    """Whether the line of a record of version 2 names an edge, and that of the same record in version 1 comes later."""
+    refused_one, refused_two = (found and tuple(map(int, found.groups())) for found in map(REFUSAL.fullmatch, (one, two)))
+    if not refused_two or refused_two[0] != 12:
+        return False
+    if not refused_one:
+        return one.startswith(("fits ", "overloaded "))
+    (number, member, first), (_, other_member, other_first) = refused_one, refused_two
+    return (member, number, first) > (other_member, 12, other_first)
+
+
+def check_versions(program, data, line, table=None):
+    """True, or how the line of the same record in the other version differs.  What version 2 asks more is edges alone."""
+    if data[:2] not in (b"\1\0", b"\2\0"):
+        return True
+    other = in_version(data, 3 - data[0])
+    found = program.judge(other, table)
+    one, two = (line, found) if data[0] == 1 else (found, line)
+    return one == two or asked_more(one, two) or "in version 1 %r, in version 2 %r" % (one, two)
+
+
 def check_line(program, data, reference, table=None):
     """The line, and True or the reason why it is wrong."""
     line = program.judge(data, table) if program.tables else program.judge(data)
@@ -54,6 +82,8 @@ def check_line(program, data, reference, table=None):
         if other != line:
             plain, tabled = (line, other) if table is None else (other, line)
             return line, "judged without a table %r, with the printed one %r" % (plain, tabled)
+    if found is True and program.writes:            # not a program, which takes its time
+        found = check_versions(program, data, line, table)
     return line, found
 
 

@@ -118,7 +118,7 @@ changed(SPACE, "strict: pair across", pair_across=lambda self, c, m: c > 30 * se
 changed(SPACE, "strict: loaded end 7d", loaded_7d=lambda self, a: a > 70 * self.d)
 changed(SPACE, "strict: loaded end 80 mm", loaded_80=lambda self, a: a > 800)
 changed(SPACE, "strict: other end 3d", other_3d=lambda self, a: a > 30 * self.d)
-changed(SPACE, "strict: edges 3d", edge=lambda self, c: c > 30 * self.d)
+changed(SPACE, "strict: edges 3d", edge_3d=lambda self, c: c > 30 * self.d)
 
 
 @wrong(SPACE, "strict: other end 7d sin")
@@ -149,7 +149,7 @@ for _name, _by in (("one tenth lax", 1), ("one tenth severe", -1)):
     changed(SPACE, "%s: loaded end 80 mm" % _name, loaded_80=lambda self, a, by=_by: a + by >= 800)
     changed(SPACE, "%s: other end 7d sin" % _name, other_sine=_other_sine)
     changed(SPACE, "%s: other end 3d" % _name, other_3d=lambda self, a, by=_by: a + by >= 30 * self.d)
-    changed(SPACE, "%s: edges" % _name, edge=lambda self, c, by=_by: c + by >= 30 * self.d)
+    changed(SPACE, "%s: edges" % _name, edge_3d=lambda self, c, by=_by: c + by >= 30 * self.d)
 
 changed(SPACE, "80 mm left out", loaded_80=lambda self, a: True)
 changed(SPACE, "80 mm at every end", other_end=lambda self, a, m: Model.other_end(self, a, m) and a >= 800)
@@ -211,7 +211,7 @@ changed(SPACE, "ends not tested", test_ends=lambda self, m: None)
 changed(SPACE, "edges not tested", test_edges=lambda self, m: None)
 changed(SPACE, "member 1 only", members=(0,))
 changed(SPACE, "member 2 only", members=(1,))
-changed(SPACE, "distances outside taken as positive", edge=lambda self, c: abs(c) >= 30 * self.d)
+changed(SPACE, "distances outside taken as positive", edge_3d=lambda self, c: abs(c) >= 30 * self.d)
 changed(SPACE, "ends outside taken as positive",
         other_end=lambda self, a, m: Model.other_end(self, abs(a), m),
         loaded_end=lambda self, a, m: Model.loaded_end(self, abs(a), m))
@@ -291,6 +291,296 @@ class _(Model):
     def other_sine(self, a, m):
         fa, fc = self.axes(m, self.force)
         return a / 10 >= 7 * self.d * abs(sin(atan2(fc, fa)))
+
+
+# ---------------------------------------------------------------------- loaded edges (02, A7)
+
+EDGES = "loaded edge"
+
+
+def least_by(limit):
+    """The loaded edge at least limit(self, along squared, across squared, their sum) away, in tenths; and 3d."""
+    return {"edge_sine": lambda self, c, m: c >= limit(self, *self.squares(m))}
+
+
+def root_up(num, den):
+    """the least whole number whose square is not below num/den"""
+    root = isqrt(num // den)
+    return root + (root * root * den < num)
+
+
+def in_version_2(name, otherwise):
+    """A method of Model changed in records of version 2 alone."""
+    plain = getattr(Model, name)
+    return {name: lambda self, *more: (otherwise if self.version == 2 else plain)(self, *more)}
+
+
+changed(EDGES, "cosine for sine", edge_squares=lambda self, m: (lambda a2, c2, f2: (c2, a2, f2))(*self.squares(m)))
+changed(EDGES, "3d left out at the loaded edge", loaded_edge=lambda self, c, m: self.edge_sine(c, m))
+changed(EDGES, "3d left out at the other edge, 2d there", **in_version_2("other_edge", lambda self, c, m: c >= 20 * self.d))
+changed(EDGES, "other edge not tested in version 2", **in_version_2("other_edge", lambda self, c, m: True))
+changed(EDGES, "loaded edge not tested", loaded_edge=lambda self, c, m: True)
+changed(EDGES, "version 1's rule in version 2", has_loaded_edges=lambda self: False)
+changed(EDGES, "version 2's rule in version 1", has_loaded_edges=lambda self: True)
+changed(EDGES, "the versions' rules exchanged", has_loaded_edges=lambda self: self.version == 1)
+changed(EDGES, "version 2's rule in member 1 only", edge_is_loaded=lambda self, c, m: c > 0 and m == 0)
+changed(EDGES, "version 2's rule in member 2 only", edge_is_loaded=lambda self, c, m: c > 0 and m == 1)
+changed(EDGES, "version 2's rule with one shear plane only", edge_is_loaded=lambda self, c, m: c > 0 and self.p == 1)
+changed(EDGES, "version 2's rule with two shear planes only", edge_is_loaded=lambda self, c, m: c > 0 and self.p == 2)
+for _g in (0, 1):
+    changed(EDGES, "version 2's rule with grain %s only" % "xy"[_g], edge_is_loaded=lambda self, c, m, g=_g: (
+        c > 0 and self.grain[m] == g))
+    changed(EDGES, "loaded side turned round with grain %s" % "xy"[_g], edge_sign=lambda self, m, g=_g: (
+        self.sign(m) * (-1 if self.grain[m] == g else 1)))
+changed(EDGES, "version 2's rule where the grains are alike only", edge_is_loaded=lambda self, c, m: (
+    c > 0 and self.grain[0] == self.grain[1]))
+changed(EDGES, "member 2's loaded side for member 1", edge_sign=lambda self, m: 1)
+changed(EDGES, "member 1's loaded side for member 2", edge_sign=lambda self, m: -1)
+changed(EDGES, "loaded side turned round", edge_sign=lambda self, m: -self.sign(m))
+changed(EDGES, "both edges loaded", edge_is_loaded=lambda self, c, m: True)
+changed(EDGES, "the edge loaded from which the force runs away", edge_is_loaded=lambda self, c, m: c < 0)
+changed(EDGES, "the high edge always loaded", edge_sign=lambda self, m: 1 if self.axes(m, self.force)[1] > 0 else -1)
+changed(EDGES, "the low edge always loaded", edge_sign=lambda self, m: -1 if self.axes(m, self.force)[1] > 0 else 1)
+changed(EDGES, "the edge loaded by the component along", edge_axes=lambda self, m, xy: self.axes(m, xy)[::-1])
+changed(EDGES, "the edge loaded by fy whatever the grain", edge_axes=lambda self, m, xy: xy)
+changed(EDGES, "the edge loaded by fx whatever the grain", edge_axes=lambda self, m, xy: xy[::-1])
+changed(EDGES, "the edge loaded by the other member's grain", edge_axes=lambda self, m, xy: self.axes(1 - m, xy))
+changed(EDGES, "the edge loaded by member 1's grain", edge_axes=lambda self, m, xy: self.axes(0, xy))
+changed(EDGES, "the edge loaded by member 2's grain", edge_axes=lambda self, m, xy: self.axes(1, xy))
+changed(EDGES, "a component of 1 N loads no edge", edge_is_loaded=lambda self, c, m: c > 1)
+changed(EDGES, "a component below 10 N loads no edge", edge_is_loaded=lambda self, c, m: c >= 10)
+for _degrees, _square in ((45, 5000), (40, 4132), (60, 7500), (31, 2653)):      # of the sine, in ten-thousandths
+    changed(EDGES, "loaded above %d degrees only" % _degrees, edge_is_loaded=lambda self, c, m, square=_square: (
+        c > 0 and 10000 * self.squares(m)[1] > square * self.squares(m)[2]))
+changed(EDGES, "loaded where the force is square to the grain only", edge_is_loaded=lambda self, c, m: (
+    c > 0 and self.squares(m)[0] == 0))
+changed(EDGES, "loaded where the force is not square to the grain only", edge_is_loaded=lambda self, c, m: (
+    c > 0 and self.squares(m)[0] > 0))
+changed(EDGES, "4d at both edges where the force runs along", edge=lambda self, c, m, component: (
+    Model.edge(self, c, m, component) and (self.version == 1 or component != 0 or c >= 40 * self.d)))
+
+changed(EDGES, "member 1's angle for both", edge_squares=lambda self, m: self.squares(0))
+changed(EDGES, "member 2's angle for both", edge_squares=lambda self, m: self.squares(1))
+changed(EDGES, "the other member's angle", edge_squares=lambda self, m: self.squares(1 - m))
+changed(EDGES, "angle from x whatever the grain", edge_squares=lambda self, m: (
+    self.force[0] ** 2, self.force[1] ** 2, self.force[0] ** 2 + self.force[1] ** 2))
+changed(EDGES, "angle from y whatever the grain", edge_squares=lambda self, m: (
+    self.force[1] ** 2, self.force[0] ** 2, self.force[0] ** 2 + self.force[1] ** 2))
+changed(EDGES, "tangent for sine", edge_squares=lambda self, m: (
+    lambda a2, c2, f2: (a2, c2, max(a2, 1)))(*self.squares(m)))
+changed(EDGES, "sine squared", **least_by(lambda self, a2, c2, f2: 20 * self.d + ceil_div(20 * self.d * c2, f2)))
+for _whole, _times in ((2, 1), (2, 3), (1, 2), (3, 2), (3, 1), (2, 4), (1, 3), (3, 4)):
+    changed(EDGES, "(%d + %d sin) d" % (_whole, _times), **least_by(lambda self, a2, c2, f2, k=_whole, n=_times: (
+        10 * k * self.d + root_up(100 * n * n * self.d ** 2 * c2, f2))))
+changed(EDGES, "4 sin d", **least_by(lambda self, a2, c2, f2: root_up(1600 * self.d ** 2 * c2, f2)))
+changed(EDGES, "7 sin d, as at an end", **least_by(lambda self, a2, c2, f2: root_up(4900 * self.d ** 2 * c2, f2)))
+changed(EDGES, "4d whatever the angle", **least_by(lambda self, a2, c2, f2: 40 * self.d))
+changed(EDGES, "(3 + 2 cos) d, as between dowels", **least_by(lambda self, a2, c2, f2: (
+    30 * self.d + root_up(400 * self.d ** 2 * a2, f2))))
+changed(EDGES, "7d and 80 mm, as at an end", **least_by(lambda self, a2, c2, f2: max(70 * self.d, 800)))
+changed(EDGES, "at least 80 mm", **least_by(lambda self, a2, c2, f2: max(
+    800, 20 * self.d + root_up(400 * self.d ** 2 * c2, f2))))
+changed(EDGES, "at least 40 mm", **least_by(lambda self, a2, c2, f2: max(
+    400, 20 * self.d + root_up(400 * self.d ** 2 * c2, f2))))
+
+
+@wrong(EDGES, "strict: (2 + 2 sin) d")
+class _(Model):
+    def edge_sine(self, c, m):
+        _, c2, f2 = self.squares(m)
+        over = c - 20 * self.d
+        return over >= 0 and over * over * f2 > 400 * self.d ** 2 * c2
+
+
+@wrong(EDGES, "strict: (2 + 2 sin) d, skew only")
+class _(Model):
+    def edge_sine(self, c, m):
+        a2, c2, f2 = self.squares(m)
+        over = c - 20 * self.d
+        return Model.edge_sine(self, c, m) and not (a2 and over * over * f2 == 400 * self.d ** 2 * c2)
+
+
+changed(EDGES, "strict: 4d, square to the grain only", edge_sine=lambda self, c, m: (
+    Model.edge_sine(self, c, m) and not (c == 40 * self.d and self.squares(m)[0] == 0)))
+changed(EDGES, "strict: 3d at the loaded edge", loaded_edge=lambda self, c, m: (
+    c > 30 * self.d and self.edge_sine(c, m)))
+changed(EDGES, "strict: 3d at the other edge of version 2", **in_version_2("other_edge", lambda self, c, m: c > 30 * self.d))
+for _name, _by in (("one tenth lax", 1), ("one tenth severe", -1)):
+    changed(EDGES, "%s: (2 + 2 sin) d" % _name, edge_sine=lambda self, c, m, by=_by: Model.edge_sine(self, c + by, m))
+    changed(EDGES, "%s: 3d at the loaded edge" % _name, loaded_edge=lambda self, c, m, by=_by: (
+        self.edge_3d(c + by) and self.edge_sine(c, m)))
+    changed(EDGES, "%s: 3d at the other edge of version 2" % _name, **in_version_2(
+        "other_edge", lambda self, c, m, by=_by: self.edge_3d(c + by)))
+changed(EDGES, "limit rounded down to a tenth", **least_by(lambda self, a2, c2, f2: (
+    20 * self.d + isqrt(400 * self.d ** 2 * c2 // f2))))
+changed(EDGES, "limit rounded to the nearest tenth", **least_by(lambda self, a2, c2, f2: (
+    20 * self.d + (isqrt(1600 * self.d ** 2 * c2 // f2) + 1) // 2)))
+changed(EDGES, "limit rounded down to a millimetre", **least_by(lambda self, a2, c2, f2: (
+    20 * self.d + 10 * isqrt(4 * self.d ** 2 * c2 // f2))))
+changed(EDGES, "limit rounded to the nearest millimetre", **least_by(lambda self, a2, c2, f2: (
+    20 * self.d + 10 * ((isqrt(16 * self.d ** 2 * c2 // f2) + 1) // 2))))
+changed(EDGES, "limit rounded up to a millimetre", **least_by(lambda self, a2, c2, f2: (
+    20 * self.d + 10 * root_up(4 * self.d ** 2 * c2, f2))))
+for _places in (3, 6, 9):
+    changed(EDGES, "sine to %d places, rounded down" % _places, edge_sine=lambda self, c, m, k=10 ** _places: (
+        lambda a2, c2, f2: (c - 20 * self.d) * k >= 20 * self.d * isqrt(k * k * c2 // f2))(*self.squares(m)))
+    changed(EDGES, "sine to %d places, rounded up" % _places, edge_sine=lambda self, c, m, k=10 ** _places: (
+        lambda a2, c2, f2: (c - 20 * self.d) * k >= 20 * self.d * root_up(k * k * c2, f2))(*self.squares(m)))
+changed(EDGES, "sine in floating point, by the angle", edge_sine=lambda self, c, m: (
+    lambda fa, fc: c / 10 >= (2 + 2 * abs(sin(atan2(fc, fa)))) * self.d)(*self.axes(m, self.force)))
+changed(EDGES, "sine in floating point, by a root", edge_sine=lambda self, c, m: (
+    lambda fa, fc: c / 10 >= 2 * self.d + 2 * self.d * abs(fc) / sqrt(fa * fa + fc * fc))(*self.axes(m, self.force)))
+changed(EDGES, "sine as the root of 1 less cosine squared in floating point", edge_sine=lambda self, c, m: (
+    lambda a2, c2, f2: c >= 20 * self.d * (1 + sqrt(1 - a2 / f2)))(*self.squares(m)))
+changed(EDGES, "squares in 64 bits", edge_sine=lambda self, c, m: (lambda over, a2, c2, f2: (
+    over >= 0 and over * over * f2 % 2 ** 64 >= 400 * self.d ** 2 * c2))(c - 20 * self.d, *self.squares(m)))
+changed(EDGES, "squares in 64 bits with a sign", edge_sine=lambda self, c, m: (lambda over, a2, c2, f2: (
+    over >= 0 and (over * over * f2 + 2 ** 63) % 2 ** 64 - 2 ** 63 >= 400 * self.d ** 2 * c2))(
+        c - 20 * self.d, *self.squares(m)))
+changed(EDGES, "squares in 32 bits", edge_sine=lambda self, c, m: (lambda over, a2, c2, f2: (
+    over >= 0 and over * over * f2 % 2 ** 32 >= 400 * self.d ** 2 * c2 % 2 ** 32))(c - 20 * self.d, *self.squares(m)))
+changed(EDGES, "what is left of 2d taken as positive", edge_sine=lambda self, c, m: (lambda over, a2, c2, f2: (
+    over * over * f2 >= 400 * self.d ** 2 * c2))(c - 20 * self.d, *self.squares(m)), edge_3d=lambda self, c: (
+        c >= 30 * self.d or c < 0 and self.version == 2))
+changed(EDGES, "distances outside taken as positive at the loaded edge", loaded_edge=lambda self, c, m: (
+    Model.loaded_edge(self, abs(c), m)))
+
+# the rule where it has no place
+changed(EDGES, "version 2's rule at the other end for 7 sin d", **in_version_2(
+    "other_sine", lambda self, a, m: self.edge_sine(a, m)))
+changed(EDGES, "version 2's rule at the loaded end for 7d", **in_version_2("loaded_7d", lambda self, a: a >= 40 * self.d))
+changed(EDGES, "no 80 mm in version 2", **in_version_2("loaded_80", lambda self, a: True))
+changed(EDGES, "80 mm at every end in version 2", **in_version_2("other_end", lambda self, a, m: (
+    Model.other_end(self, a, m) and a >= 800)))
+changed(EDGES, "version 2's rule between dowels across", pair=lambda self, a, c, m: (
+    self.pair_across(c, m) and (self.version == 1 or self.edge_sine(c, m)) or self.pair_along(a, m)))
+changed(EDGES, "both spacings of a pair asked in version 2", **in_version_2("pair", lambda self, a, c, m: (
+    self.pair_across(c, m) and self.pair_along(a, m))))
+changed(EDGES, "(3 + 2 sin) d along in version 2", **in_version_2("pair_along", lambda self, a, m: (
+    lambda a2, c2, f2: a >= 30 * self.d + root_up(400 * self.d ** 2 * c2, f2))(*self.squares(m))))
+changed(EDGES, "ends not tested in version 2", **in_version_2("test_ends", lambda self, m: None))
+changed(EDGES, "edges not tested in version 2", **in_version_2("test_edges", lambda self, m: None))
+changed(EDGES, "pairs not tested in version 2", a1=lambda self, gaps: max(1, min(gaps)), **in_version_2(
+    "test_pairs_of_dowels", lambda self, m: None))
+changed(EDGES, "force in member 1 signed as in member 2 in version 2", **in_version_2("sign", lambda self, m: 1))
+
+
+# the number and the place
+def edge_faults(self, m):
+    """(dowel from 0, side 0 or 1, whether that edge is loaded, how far away) of each edge too near in member m."""
+    found = []
+    low, high = (self.axes(m, self.outline[m][k:k + 2])[1] for k in (0, 2))
+    force = self.sign(m) * self.axes(m, self.force)[1]
+    for i in range(self.n):
+        c = self.axes(m, self.xy[i])[1]
+        for side, away, component in ((0, c - low, -force), (1, high - c, force)):
+            if not self.edge(away, m, component):
+                found.append((i, side, component > 0, away))
+    return found
+
+
+def names_edge(name, pick):
+    """Another dowel named where an edge is too near in version 2: pick(faults) -> the fault."""
+    def test_edges(self, m):
+        found = edge_faults(self, m)
+        if found:
+            raise Refused(12, m + 1, pick(found)[0] + 1)
+    changed(EDGES, name, **in_version_2("test_edges", test_edges))
+
+
+names_edge("the last dowel too near named", lambda found: found[-1])
+names_edge("the first dowel too near a loaded edge named first", lambda found: min(found, key=lambda f: (not f[2], f[0])))
+names_edge("the first dowel too near another edge named first", lambda found: min(found, key=lambda f: (f[2], f[0])))
+names_edge("the first dowel too near the low edge named first", lambda found: min(found, key=lambda f: (f[1], f[0])))
+names_edge("the first dowel too near the high edge named first", lambda found: min(found, key=lambda f: (-f[1], f[0])))
+names_edge("the dowel nearest to an edge named", lambda found: min(found, key=lambda f: f[3]))
+names_edge("dowel 1 named always", lambda found: (0,))
+names_edge("dowels counted from 0 in version 2", lambda found: (found[0][0] - 1,))
+
+
+def renamed_edge(name, line):
+    """12 printed otherwise in version 2: line(self, member, first)."""
+    def print_refusal(self, number, member, first, second):
+        if number == 12 and self.version == 2:
+            return line(self, member, first)
+        return Model.print_refusal(self, number, member, first, second)
+    changed(EDGES, name, print_refusal=print_refusal)
+
+
+renamed_edge("members exchanged", lambda self, m, i: "refused 12 %d %d 0\n" % (3 - m, i))
+renamed_edge("the dowel named twice", lambda self, m, i: "refused 12 %d %d %d\n" % (m, i, i))
+renamed_edge("no place", lambda self, m, i: "refused 12 0 0 0\n")
+renamed_edge("11 for 12", lambda self, m, i: "refused 11 %d %d 0\n" % (m, i))
+renamed_edge("13 for 12", lambda self, m, i: "refused 13 %d %d 0\n" % (m, i))
+renamed_edge("2 for 12", lambda self, m, i: "refused 2 0 0 0\n")
+
+
+def test_loaded_edges(self, m):
+    """What version 2 asks more than version 1."""
+    for i, _, loaded, away in edge_faults(self, m):
+        if loaded and self.edge_3d(away):
+            raise Refused(12, m + 1, i + 1)
+
+
+def loaded_edges_apart(name, order):
+    """The loaded edges of a record of version 2 by themselves: order is a list of tests, each with a member."""
+    def answer(self, data):
+        self.read(data)
+        for test, m in order:
+            if test == "loaded":
+                if Model.has_loaded_edges(self):
+                    test_loaded_edges(self, m)
+                continue
+            self.has_loaded_edges = lambda: False
+            try:
+                getattr(self, test)(m)
+            finally:
+                del self.has_loaded_edges
+        return self.print_answer(*self.figures())
+    changed(EDGES, name, answer=lambda self, data: (
+        answer(self, data) if len(data) <= self.most else Model.answer(self, data)))
+
+
+PAIRS, ENDS, EDGE = Model.spacing_tests
+loaded_edges_apart("loaded edges after all else", [
+    (test, m) for m in (0, 1) for test in Model.spacing_tests] + [("loaded", 0), ("loaded", 1)])
+loaded_edges_apart("loaded edges before all else", [
+    ("loaded", 0), ("loaded", 1)] + [(test, m) for m in (0, 1) for test in Model.spacing_tests])
+loaded_edges_apart("loaded edges before ends", [
+    (test, m) for m in (0, 1) for test in (PAIRS, "loaded", ENDS, EDGE)])
+loaded_edges_apart("loaded edges before pairs", [
+    (test, m) for m in (0, 1) for test in ("loaded", PAIRS, ENDS, EDGE)])
+loaded_edges_apart("a member's loaded edges after its others", [
+    (test, m) for m in (0, 1) for test in (PAIRS, ENDS, EDGE, "loaded")])
+loaded_edges_apart("a member's loaded edges before its others", [
+    (test, m) for m in (0, 1) for test in (PAIRS, ENDS, "loaded", EDGE)])
+
+# within the brackets: only the line in the other version tells
+for _k, _what in enumerate(("use one higher", "capacity one lower", "share one lower")):
+    for _version in (1, 2):
+        changed(EDGES, "%s in version %d" % (_what, _version), print_answer=lambda self, *figures, k=_k, v=_version: (
+            Model.print_answer(self, *(z + (1, -1, -1)[i] * (i == k and self.version == v) for i, z in enumerate(figures)))))
+changed(EDGES, "no row share in version 2", **in_version_2("shares", lambda self: (10000, 10000)))
+changed(EDGES, "rows as 01 had them in version 2", **in_version_2("near", lambda self, c: c == 0))
+changed(EDGES, "softwood's k90 for hardwood in version 2", **in_version_2("k90", lambda self, m: 1350 + 15 * self.d))
+changed(EDGES, "the other member's angle for bearing in version 2", **in_version_2(
+    "bearing_squares", lambda self, m: self.squares(1 - m)))
+
+
+@wrong(EDGES, "overloaded, not refused, where an edge is too near in version 2")
+class _(Model):
+    too_near = False
+
+    def test_edges(self, m):
+        try:
+            Model.test_edges(self, m)
+        except Refused:
+            if self.version == 1:
+                raise
+            self.too_near = True
+
+    def fits(self, use):
+        return use <= 10000 and not self.too_near
 
 
 # ------------------------------------------------------------------- order and place
@@ -447,8 +737,39 @@ changed(READ, "gaps pass", gap=lambda self, offset, at: offset < at)
 changed(READ, "overlaps pass", gap=lambda self, offset, at: offset > at)
 changed(READ, "first offset not tested", gap=lambda self, offset, at: at != 20 and offset != at)
 changed(READ, "version not tested", test_version=lambda self: None)
-changed(READ, "version by its low byte", test_version=lambda self: (
-    (_ for _ in ()).throw(Refused(2)) if self.data[0] != 1 else 0) and None)
+for _what, _some in (
+        ("0 accepted", (0, 1, 2)), ("3 accepted", (1, 2, 3)), ("1 refused", (2,)), ("2 refused", (1,)),
+        ("up to 255 accepted", range(1, 256)), ("from 1 on accepted", range(1, 65536)), ("up to 2 accepted", range(3)),
+        ("256 accepted", (1, 2, 256)), ("512 accepted", (1, 2, 512)), ("257 accepted", (1, 2, 257)), ("258 accepted", (1, 2, 258)),
+        ("32,770 accepted", (1, 2, 32770)), ("65,535 accepted", (1, 2, 65535))):
+    changed(READ, "version %s" % _what, versions=_some)
+
+
+def read_version(taken):
+    """The version taken otherwise: taken(number in bytes 0 and 1)."""
+    def test_version(self):
+        if taken(self.u16(0)) not in self.versions:
+            raise Refused(2)
+
+    def take_values(self):
+        Model.take_values(self)
+        self.version = taken(self.version)
+    return {"test_version": test_version, "take_values": take_values}
+
+
+changed(READ, "version by its low byte", **read_version(lambda n: n & 255))
+changed(READ, "version by its high byte", **read_version(lambda n: n >> 8))
+changed(READ, "version by either byte", **read_version(lambda n: n & 255 or n >> 8))
+changed(READ, "version by both bytes together", **read_version(lambda n: n & 255 | n >> 8))
+changed(READ, "version's high byte first", **read_version(lambda n: (n & 255) << 8 | n >> 8))
+for _bits in (2, 3, 4, 7, 9, 12, 15):
+    changed(READ, "version by its low %d bits" % _bits, **read_version(lambda n, most=2 ** _bits: n % most))
+changed(READ, "version with a sign, its sign lost", **read_version(lambda n: min(n, 65536 - n)))
+changed(READ, "versions exchanged", **read_version(lambda n: {1: 2, 2: 1}.get(n, n)))
+changed(READ, "version 3 taken for 2", **read_version(lambda n: 2 if n == 3 else n))
+for _number in (1, 3, 7):
+    changed(READ, "unknown version is %d" % _number, test_version=lambda self, n=_number: (
+        self.u16(0) not in self.versions and throw(n)))
 changed(READ, "count not tested", test_count=lambda self: None)
 changed(READ, "19 bytes enough", read=lambda self, data: Model.read(self, data + bytes(len(data) == 19)))
 changed(READ, "unknown kind is 7", test_kinds=lambda self: (_ for _ in ()).throw(
@@ -1167,7 +1488,14 @@ miswrites("ends for lengths", pair_of=lambda self, at, n: Model.pair_of(self, at
 miswrites("lengths for offsets", pair_of=lambda self, at, n: Model.pair_of(self, n, at))
 miswrites("lengths in one byte", pair_of=lambda self, at, n: Model.pair_of(self, at, n & 255))
 miswrites("offsets in one byte", pair_of=lambda self, at, n: Model.pair_of(self, at & 255, n))
-miswrites("version 2 written", record=rerecorded(lambda self, out: out.__setitem__(0, 2)))
+miswrites("version 2 written always", record=rerecorded(lambda self, out: out.__setitem__(0, 2)))
+miswrites("version 1 written always", record=rerecorded(lambda self, out: out.__setitem__(0, 1)))
+miswrites("version 0 written", record=rerecorded(lambda self, out: out.__setitem__(0, 0)))
+miswrites("the versions exchanged", record=rerecorded(lambda self, out: out.__setitem__(0, 3 - self.version)))
+miswrites("version's bytes exchanged", record=rerecorded(lambda self, out: out.__setitem__(slice(0, 2), out[1::-1])))
+miswrites("version in both bytes", record=rerecorded(lambda self, out: out.__setitem__(1, out[0])))
+miswrites("version in version 2 in both bytes", record=rerecorded(lambda self, out: out.__setitem__(1, out[0] - 1)))
+miswrites("a third part more in version 2", record=rerecorded(lambda self, out: out.__setitem__(2, 3 + self.version)))
 miswrites("number of pairs 3", record=rerecorded(lambda self, out: out.__setitem__(2, 3)))
 miswrites("N one off", record=rerecorded(lambda self, out: out.__setitem__(66, self.n - 1)))
 miswrites("N always 4", record=rerecorded(lambda self, out: out.__setitem__(66, 4)))
@@ -1212,13 +1540,26 @@ miswrites("answer cleared where a slice is short", LEFT, write=lambda self, *len
 
 TESTS = "writer's tests"
 miswrites("version not tested", TESTS, known=range(-2 ** 31, 2 ** 31))
-miswrites("version 0 known", TESTS, known=(0, 1))
-miswrites("version 2 known", TESTS, known=(1, 2))
+for _what, _some in (("0 known", (0, 1, 2)), ("3 known", (1, 2, 3)), ("-1 known", (-1, 1, 2)), ("-2 known", (-2, 1, 2)),
+                     ("1 not known", (2,)), ("2 not known", (1,)), ("from 1 on known", range(1, 2 ** 31)),
+                     ("up to 2 known", range(-2 ** 31, 3)), ("65,538 known", (1, 2, 65538)), ("131,074 known", (1, 2, 131074))):
+    miswrites("version %s" % _what, TESTS, known=_some)
+for _what, _taken in (("an unknown version taken for 1", lambda n: 2 if n == 2 else 1),
+                      ("an unknown version taken for 2", lambda n: 1 if n == 1 else 2),
+                      ("version 3 taken for 2", lambda n: 2 if n == 3 else n),
+                      ("versions counted from 0", lambda n: n + 1), ("versions exchanged", lambda n: {1: 2, 2: 1}.get(n, n))):
+    miswrites(_what, TESTS, take_handed=retaken(lambda f, x, y, m, taken=_taken: ([taken(f[0])] + f[1:], x, y, m)))
+miswrites("unknown version is 13", TESTS, test_known=lambda self: self.version not in self.known and throw(13))
+miswrites("unknown version is 1", TESTS, test_known=lambda self: self.version not in self.known and throw(1))
+miswrites("unknown version writes nothing, number 0", TESTS, refuse_write=lambda self, n, buffer, answer: (
+    Model.refuse_write(self, 0 if n == 2 else n, buffer, answer)))
+miswrites("loaded edges tested as well", TESTS, writer_tests=Model.writer_tests[:-1] + ("test_loaded", "test_room"),
+          test_loaded=lambda self: self.version == 2 and [test_loaded_edges(self, m) for m in (0, 1)] and None)
 miswrites("version by its low byte", TESTS, take_handed=narrowed((0,), 8))
 miswrites("version by its low 16 bits", TESTS, take_handed=narrowed((0,), 16))
 miswrites("version's sign lost", TESTS, take_handed=retaken(lambda f, x, y, m: ([abs(f[0])] + f[1:], x, y, m)))
 miswrites("unknown version is 7", TESTS, test_known=lambda self: (_ for _ in ()).throw(Refused(7))
-          if self.version != 1 else None)
+          if self.version not in self.known else None)
 for _at, _bits, _what in ((1, 8, "planes"), (2, 8, "class 1"), (3, 8, "grain 1"), (6, 16, "thickness 1"),
                           (11, 8, "class 2"), (12, 8, "grain 2"), (15, 16, "thickness 2"), (20, 8, "diameter"),
                           (21, 8, "steel"), (23, 8, "service class"), (24, 8, "duration")):
@@ -1258,7 +1599,9 @@ miswrites("spacing tested as well", TESTS, writer_tests=Model.writer_tests[:-1] 
           test_spacing=lambda self: [getattr(self, t)(m) for m in (0, 1) for t in self.spacing_tests] and None)
 for _name, _order in (
         ("7 before 2", "lists fields known outlines force room"), ("13 first", "room known lists fields outlines force"),
-        ("2 last", "lists fields outlines force room known"),
+        ("2 last", "lists fields outlines force room known"), ("2 after the lists", "lists known fields outlines force room"),
+        ("2 after 8", "lists fields outlines known force room"), ("2 after 9", "lists fields outlines force known room"),
+        ("2 not tested", "lists fields outlines force room"),
         ("8 before 7", "known lists outlines fields force room"), ("8 before 7, the lists too", "known outlines lists fields force room"),
         ("9 before 7", "known force lists fields outlines room"), ("9 before 8", "known lists fields force outlines room"),
         ("13 before 9", "known lists fields outlines room force"), ("13 before 8", "known lists fields room outlines force"),
@@ -1312,6 +1655,21 @@ unread("marks left as they were", read_values=lambda self, data, f, x, y, m, a: 
 unread("gx and gy from the grain", handed_back=rehanded(lambda z: z.__setitem__(4, 1 - z[3])))
 unread("plate -1", handed_back=rehanded(lambda z: z.__setitem__(22, -1)))
 unread("version 0", handed_back=rehanded(lambda z: z.__setitem__(0, 0)))
+unread("version lost, 1 for 2", handed_back=rehanded(lambda z: z.__setitem__(0, 1)))
+unread("version lost, 2 for 1", handed_back=rehanded(lambda z: z.__setitem__(0, 2)))
+unread("the versions exchanged", handed_back=rehanded(lambda z: z.__setitem__(0, 3 - z[0])))
+unread("version counted from 0", handed_back=rehanded(lambda z: z.__setitem__(0, z[0] - 1)))
+unread("the number of pairs for the version", handed_back=lambda self: [self.u16(2)] + Model.handed_back(self)[1:])
+unread("version 1 in x where there are no dowels", past=lambda self, k: (self.version - 1, 0))
+unread("marks 1 in version 2", mark=lambda self, k: int(self.version == 2 and k < self.n))
+unread("gx 1 in version 2", handed_back=rehanded(lambda z: z.__setitem__(4, z[0] - 1)))
+unread("plate 1 in version 2", handed_back=rehanded(lambda z: z.__setitem__(22, z[0] - 1)))
+for _what, _some in (("2 refused", (1,)), ("1 refused", (2,)), ("3 read", (1, 2, 3)), ("0 read", (0, 1, 2)),
+                     ("258 read", (1, 2, 258)), ("from 1 on read", range(1, 65536))):
+    unread("version %s" % _what, versions=_some)
+unread("version by its low byte", **read_version(lambda n: n & 255))
+unread("loaded edges tested as well", read=lambda self, data: (Model.read(self, data), self.version == 2 and [
+    test_loaded_edges(self, m) for m in (0, 1)])[0])
 for _a, _b, _what in ((2, 11, "classes"), (3, 12, "grains"), (6, 15, "thicknesses"), (7, 8, "x0 and y0 of member 1"),
                       (18, 19, "x1 and y1 of member 2"), (20, 21, "diameter and steel"), (21, 22, "steel and plate"),
                       (23, 24, "service class and duration"), (25, 26, "fx and fy")):
@@ -1773,6 +2131,25 @@ misgrades("density at least 291", density_of=weighed(lambda self, m, density: ma
 misgrades("density in whole fives", density_of=weighed(lambda self, m, density: density // 5 * 5))
 misgrades("density in 10 bits", density_of=weighed(lambda self, m, density: density & 1023 or 1))
 misgrades("density 350 for all", density_of=weighed(lambda self, m, density: 350))
+
+# ---- the version, in calls with a table
+
+misgrades("version 1's rule of edges in version 2", has_loaded_edges=lambda self: False)
+misgrades("version 2's rule of edges in version 1", has_loaded_edges=lambda self: True)
+misgrades("cosine for sine at a loaded edge", edge_squares=lambda self, m: (lambda a2, c2, f2: (c2, a2, f2))(*self.squares(m)))
+misgrades("member 2's loaded edge for member 1", edge_sign=lambda self, m: 1)
+misgrades("both edges loaded", edge_is_loaded=lambda self, c, m: True)
+mislooks("version 3 accepted", versions=(1, 2, 3), known=(1, 2, 3))
+mislooks("version 2 refused", versions=(1,), known=(1,))
+mislooks("version 1 refused", versions=(2,), known=(2,))
+mislooks("version by its low byte", ("judging", "reading"), **read_version(lambda n: n & 255))
+mislooks("version by its low 16 bits", ("writing",), take_handed=narrowed((0,), 16))
+mislooks("version lost, 1 for 2", ("reading",), handed_back=rehanded(lambda z: z.__setitem__(0, 1)))
+mislooks("version lost, 2 for 1", ("reading",), handed_back=rehanded(lambda z: z.__setitem__(0, 2)))
+mislooks("version 1 written always", ("writing",), record=rerecorded(lambda self, out: out.__setitem__(0, 1)))
+mislooks("version 2 written always", ("writing",), record=rerecorded(lambda self, out: out.__setitem__(0, 2)))
+mislooks("2 after 7", ("writing",), writer_tests=moved("table lists fields known outlines force room"))
+mislooks("2 last", ("writing",), writer_tests=moved("table lists fields outlines force room known"))
 
 # within the brackets: only the printed table's answer without a table tells
 for _k, _what in enumerate(("use one higher", "capacity one lower", "share one lower")):

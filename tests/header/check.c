@@ -1,6 +1,7 @@
 /* Calls the entries of include/negwishal.h: here judging, every field of it, then the tests of the others.  Those of
  * judging, writing and reading without a table are made once more with the printed table handed in as bytes, and for either
- * firm with the printed one as its part of a shared table.
+ * firm with the printed one as its part of a shared table.  All but those of roots are made with records of version 1, then with
+ * records of version 2.
  * check JOINT-B DOWELS-599 MEMBER-1-EDGE-719 */
 #include <inttypes.h>
 #include <stdio.h>
@@ -9,6 +10,8 @@
 #include "check.h"
 
 #define ROOM 12
+
+int32_t version_in_use = 1;
 
 static int faults = 0;
 static int tests = 0;
@@ -169,23 +172,15 @@ static void check_all(const struct file file[FILES])
     const struct file *b = &file[JOINT_B], *c = &file[CLOSE];
     check_judge(file);
     check_rows();
+    check_version(b->bytes, b->length);
     check_write(b->bytes, b->length);
     check_read(b->bytes, b->length, c->bytes, c->length);
 }
 
-int main(int argc, char **argv)
+/* By each table, and the entries that take one. */
+static void check_version_in_use(const struct file file[FILES])
 {
-    static struct file file[FILES];
-    if (argc != 1 + FILES)
-        return 2;
-    for (int k = 0; k < FILES; k++) {
-        file[k].length = read_file(argv[1 + k], file[k].bytes, sizeof file[k].bytes);
-        if (file[k].length == 0)
-            return 2;
-    }
     const struct file *b = &file[JOINT_B];
-
-    check_names();
     use(NULL, NULL);
     check_all(file);
     use(NULL, &PRINTED);
@@ -198,6 +193,27 @@ int main(int argc, char **argv)
     }
     check_table(b->bytes, b->length);
     check_firms(b->bytes, b->length);
+}
+
+int main(int argc, char **argv)
+{
+    static struct file file[FILES];
+    if (argc != 1 + FILES)
+        return 2;
+    for (int k = 0; k < FILES; k++) {
+        file[k].length = read_file(argv[1 + k], file[k].bytes, sizeof file[k].bytes);
+        if (file[k].length == 0)
+            return 2;
+    }
+
+    check_names();
+    for (version_in_use = 1; version_in_use <= 2; version_in_use++) {
+        for (int k = 0; k < FILES; k++) {
+            expect("a file's version", file[k].bytes[1], 0, 0);
+            file[k].bytes[0] = (uint8_t)version_in_use;
+        }
+        check_version_in_use(file);
+    }
     check_root();
 
     printf("header: %d tests, %d faults\n", tests, faults);

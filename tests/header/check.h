@@ -25,6 +25,9 @@ struct table {
 
 extern const struct table PRINTED;
 
+/* The version of joint_b and of the records that are handed to the tests below. */
+extern int32_t version_in_use;
+
 /* By which table the three entries below work, and for which firm; NULL: they are the entries without a table, and those
  * without a firm. */
 extern const struct table *in_use;
@@ -59,6 +62,7 @@ void short_write(const struct values *v);
 void check_firms(const uint8_t *b, size_t length);
 void check_root(void);
 void check_table(const uint8_t *b, size_t length);
+void check_version(const uint8_t *b, size_t length);
 void check_write(const uint8_t *b, size_t length);
 void check_read(const uint8_t *b, size_t length, const uint8_t *close, size_t close_length);
 

@@ -99,10 +99,10 @@ static void turned_away(const char *what, uint32_t firm, const struct table *t, 
     judges(what, record, n, report, report);
     refuses(what, record, n, number);
     wrote(what, &v, 110, number, NULL);
-    record[0] = 2; /* version 2, then a class that is in no table */
+    record[0] = 3; /* version 3, then a class that is in no table */
     judges(what, record, n, report, report);
     refuses(what, record, n, number);
-    record[0] = 1;
+    record[0] = b[0];
     record[22] = 0;
     judges(what, record, n, report, report);
     refuses(what, record, n, number);

@@ -105,8 +105,12 @@ static const struct {
     uint8_t byte[2];
     uint64_t number;
 } REFUSAL[] = {
-    {"version 2", {0, 0}, {2, 2}, 2},
-    {"version 257", {1, 1}, {1, 1}, 2},
+    {"version 3", {0, 0}, {3, 3}, 2},
+    {"version 3 and 5 pairs", {0, 2}, {3, 5}, 2},
+    {"version 0", {0, 0}, {0, 0}, 2},
+    {"version 257", {0, 1}, {1, 1}, 2},
+    {"version 258", {0, 1}, {2, 1}, 2},
+    {"version 2, high byte first", {0, 1}, {0, 2}, 2},
     {"5 pairs", {2, 2}, {5, 5}, 3},
     {"a gap", {8, 8}, {63, 63}, 4},
     {"an unknown kind", {62, 62}, {7, 7}, 5},
@@ -133,7 +137,7 @@ static void check_refusals(const uint8_t *b, size_t n)
     refuses("the last byte cut off", b, n - 1, 4);
 }
 
-/* What is written reads back, 0 where version 1 has no field; written again it is the same. */
+/* What is written reads back, 0 where versions 1 and 2 have no field; written again it is the same. */
 static void check_both_ways(const uint8_t *b)
 {
     static const int no_field[5] = {NEGWISHAL_AT_GX_1, NEGWISHAL_AT_GY_1, NEGWISHAL_AT_GX_2, NEGWISHAL_AT_GY_2,

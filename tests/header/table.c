@@ -206,12 +206,12 @@ static void check_loading(void)
 static const struct {
     size_t at;
     uint8_t byte;
-} FAULT[] = {{110, 0}, {0, 2}, {2, 5}, {8, 63}, {62, 7}, {66, 5}, {22, 12}, {42, 0}, {63, 31}, {75, 0}};
+} FAULT[] = {{110, 0}, {0, 3}, {2, 5}, {8, 63}, {62, 7}, {66, 5}, {22, 12}, {42, 0}, {63, 31}, {75, 0}};
 
 /* The number comes before all that a record or values can be refused by, and nothing is written but zeros. */
 static void turned_away(const char *what, const uint8_t *b, size_t n, uint32_t number)
 {
-    static const int32_t versions[3] = {1, 9, INT32_MIN};
+    static const int32_t versions[4] = {1, 2, 9, INT32_MIN};
     const uint64_t report[8] = {0, number, 0, 0, 0, 0, 0, 0};
     uint8_t record[111];
     for (size_t k = 0; k < sizeof FAULT / sizeof FAULT[0]; k++) {
@@ -224,7 +224,7 @@ static void turned_away(const char *what, const uint8_t *b, size_t n, uint32_t n
         judges(what, b, length, report, report);
         refuses(what, b, length, number);
     }
-    for (int k = 0; k < 3; k++)
+    for (int k = 0; k < 4; k++)
         for (size_t x_len = 3; x_len <= 4; x_len++)
             for (size_t room = 0; room <= 110; room += 55) {
                 struct values v = joint_b();
@@ -399,7 +399,7 @@ static void check_own_class(const uint8_t *b, size_t n)
         }
     v.fields[NEGWISHAL_AT_VERSION] = 9;
     wrote("class 200, version 9", &v, 110, 2, NULL);
-    v.fields[NEGWISHAL_AT_VERSION] = 1;
+    v.fields[NEGWISHAL_AT_VERSION] = version_in_use;
 
     in_use = NULL;
     wrote("class 200, no table", &v, 110, 7, NULL);

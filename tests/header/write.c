@@ -8,12 +8,13 @@ enum { ROOM = 700, ANSWERS = 5 };
 
 struct values joint_b(void)
 {
-    static const struct values b = {
+    struct values b = {
         .fields = {1, 2,                                      /* version, planes */
                    1, 0, 0, 0, 600, -840, -360, 20000, 720,   /* member 1 */
                    1, 0, 0, 0, 800, -20000, -360, 1440, 720,  /* member 2 */
                    12, 1, 0, 1, 3, 20000, 0},
         .x = {0, 600, 0, 600}, .y = {0, 0, 360, 360}, .x_len = 4, .y_len = 4};
+    b.fields[NEGWISHAL_AT_VERSION] = version_in_use;
     return b;
 }
 
@@ -128,7 +129,7 @@ static const struct {
     size_t at, width;
     int32_t other;
 } FIELD[VALUES] = {
-    {NEGWISHAL_AT_VERSION, 0, 2, 1},
+    {NEGWISHAL_AT_VERSION, 0, 2, 0}, /* the other version */
     {NEGWISHAL_AT_PLANES, 21, 1, 1},
     {NEGWISHAL_AT_CLASS_1, 22, 1, 11},
     {NEGWISHAL_AT_GRAIN_1, 23, 1, 1},
@@ -163,12 +164,13 @@ static void check_places(const uint8_t *b)
     char what[40];
     for (int k = 0; k < VALUES; k++) {
         struct values v = joint_b();
+        const int32_t other = FIELD[k].name == NEGWISHAL_AT_VERSION ? 3 - version_in_use : FIELD[k].other;
         snprintf(what, sizeof what, "place %d", k);
         expect(what, (uint64_t)FIELD[k].name, (uint64_t)k, (uint64_t)k);
         memcpy(want, b, sizeof want);
         for (size_t i = 0; i < FIELD[k].width; i++)
-            want[FIELD[k].at + i] = (uint8_t)((uint32_t)FIELD[k].other >> 8 * i);
-        v.fields[FIELD[k].name] = FIELD[k].other;
+            want[FIELD[k].at + i] = (uint8_t)((uint32_t)other >> 8 * i);
+        v.fields[FIELD[k].name] = other;
         wrote(what, &v, 110, 0, want);
         if (FIELD[k].width == 0)
             v.fields[FIELD[k].name] = 0;
@@ -196,10 +198,18 @@ static const struct {
 } REFUSAL[] = {
     {"version 9 and class 0", {0, 2}, {9, 0}, 4, 4, 110, 2},
     {"version 0", {0, 0}, {0, 0}, 4, 4, 110, 2},
-    {"version 2", {0, 0}, {2, 2}, 4, 4, 110, 2},
+    {"version 3", {0, 0}, {3, 3}, 4, 4, 110, 2},
+    {"version 3 and class 0", {0, 2}, {3, 0}, 4, 4, 110, 2},
+    {"version 3 and an empty outline", {0, 7}, {3, 20000}, 4, 4, 110, 2},
+    {"version 3 and no force", {0, 25}, {3, 0}, 4, 4, 110, 2},
+    {"version 3 and no buffer", {0, 0}, {3, 3}, 4, 4, 0, 2},
     {"version -1", {0, 0}, {-1, -1}, 4, 4, 110, 2},
+    {"version -2", {0, 0}, {-2, -2}, 4, 4, 110, 2},
     {"version 257", {0, 0}, {257, 257}, 4, 4, 110, 2},
+    {"version 258", {0, 0}, {258, 258}, 4, 4, 110, 2},
     {"version 65,537", {0, 0}, {65537, 65537}, 4, 4, 110, 2},
+    {"version 65,538", {0, 0}, {65538, 65538}, 4, 4, 110, 2},
+    {"version 131,074", {0, 0}, {131074, 131074}, 4, 4, 110, 2},
     {"version 9, no dowels, no buffer", {0, 0}, {9, 9}, 0, 0, 0, 2},
     {"class 257", {2, 2}, {257, 257}, 4, 4, 110, 7},
     {"class 257 in member 2", {11, 11}, {257, 257}, 4, 4, 110, 7},

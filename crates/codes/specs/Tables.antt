@@ -1,12 +1,12 @@
 -- The tables of 01 and of 02's A1: what a code stands for, and which versions there are. A code that a table lacks stands for `None`.
-use Rattle.std.specs.Prelude.{ℕ, ◌+◌, ◌*◌, Bool, true, false, cond, List, [], ◌∷◌, eqb, Option, Some, None, unwrap_or}
+use Rattle.std.specs.Prelude.{ℕ, ◌+◌, ◌*◌, Bool, true, false, cond, ◌&&◌, List, [], ◌∷◌, eqb, leb, Option, Some, None, unwrap_or}
 use Rattle.codes.specs.declared.Kind.{Kind}
 use Rattle.codes.specs.declared.Kind.TheVariants.{Softwood, Hardwood}
 use Rattle.codes.specs.declared.Wood.{Wood}
 
--- 01, '2 version not 1': the versions of records that are known
+-- the versions of records that are known: 1 (01, 'Bytes 0-1: version, 1') and 2 (02, A7)
 abbrev pub is_version : ℕ → Bool
-is_version n = eqb n 1
+is_version n = leb 1 n && leb n 2
 
 -- a line of a table: a code, and what stands there
 pub record Line (A : Type 0) : Type 0 where

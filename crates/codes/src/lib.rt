@@ -5,13 +5,15 @@
 ghost use Rattle.std.specs.Prelude.{◌≡◌};
 ghost use Rattle.codes.specs.Tables.{is_version, class_of, wood_of, steel_of, kmod_of, k90_of};
 
-const VERSION: u16 = 1;
+const FIRST_VERSION: u16 = 1;
+
+const LAST_VERSION: u16 = 2;
 
 // Whether records of this version are known.
 pub fn is_version(n: u16) -> bool
     ensures { result ≡ is_version n }
 {
-    n == VERSION
+    (FIRST_VERSION..=LAST_VERSION).contains(&n)
 }
 
 // Kind of wood: k90 depends on it.

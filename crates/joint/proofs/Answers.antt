@@ -93,7 +93,7 @@ module _ (t : Table) (v : Values) (p : Passed t v) where
 
   apart : ApartIn Member1 v.members.member1 × ApartIn Member2 v.members.member2
   unfolding drill_fault
-  apart = joint_apart (drill_fault v) (spacing_says _ _ _ _ _ _ _ _) p.drill
+  apart = joint_apart (drill_fault v) (spacing_says _ _ _ _ _ _ _ _ _) p.drill
 
   row_within : (k : Which) (m : Member) → ApartIn k m → RowWithin (of m)
   row_within k m a = record {

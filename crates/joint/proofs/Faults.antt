@@ -25,7 +25,7 @@ use Rattle.tables.specs.Tests.{Test, test, first_holding, numbered}
 use Rattle.tables.specs.Table.{Table, table_number, Loaded, Right}
 use Rattle.tables.specs.Told.{told as table_told}
 use Rattle.tables.proofs.Loading.{above_0}
-use Rattle.joint.specs.Refusal.{fault10, fault11, fault12, is_fault, frame, alongs, acrosses, drill_fault}
+use Rattle.joint.specs.Refusal.{edge_rule, fault10, fault11, fault12, is_fault, frame, alongs, acrosses, drill_fault}
 use Rattle.joint.specs.Refusal.{refusal_number, refusal_of, zero_values, reading_of, outcome, outcome_of}
 use Rattle.joint.specs.declared.Values.{Values}
 use Rattle.joint.specs.Refusal.{value_tests}
@@ -133,7 +133,7 @@ one_placed false k m i j p e h = cc
 edge_clean : (k : ℕ) (v : Values) → Clean (fault12 k v)
 unfolding fault12 edge_fault Clean
 edge_clean k v =
-    let i = searched (edge_too_near (frame k v) v.dowel.diameter (acrosses k v)) 0 v.positions.n in
+    let i = searched (edge_too_near (edge_rule v.version) (frame k v) v.dowel.diameter (acrosses k v)) 0 v.positions.n in
     one_clean (ltb i v.positions.n) 11 k (i + 1) 0
 
 placed10 : (k p : ℕ) (v : Values) → cond (eqb k 2) 13 10 ≡ p → is_fault (fault10 k v) ≡ true → position (fault10 k v) ≡ p
@@ -152,7 +152,7 @@ placed11 k p v e =
 placed12 : (k p : ℕ) (v : Values) → cond (eqb k 2) 15 12 ≡ p → is_fault (fault12 k v) ≡ true → position (fault12 k v) ≡ p
 unfolding fault12 edge_fault
 placed12 k p v e =
-    let i = searched (edge_too_near (frame k v) v.dowel.diameter (acrosses k v)) 0 v.positions.n in
+    let i = searched (edge_too_near (edge_rule v.version) (frame k v) v.dowel.diameter (acrosses k v)) 0 v.positions.n in
     one_placed (ltb i v.positions.n) 12 k (i + 1) 0 p e
 
 -- ---- the drill plan
@@ -274,7 +274,7 @@ numbered11 k v =
 numbered12 : (k : ℕ) (v : Values) → is_fault (fault12 k v) ≡ true → (fault12 k v).number ≡ 12
 unfolding fault12 edge_fault
 numbered12 k v =
-    let i = searched (edge_too_near (frame k v) v.dowel.diameter (acrosses k v)) 0 v.positions.n in
+    let i = searched (edge_too_near (edge_rule v.version) (frame k v) v.dowel.diameter (acrosses k v)) 0 v.positions.n in
     one_numbered (ltb i v.positions.n) 12 k (i + 1) 0
 
 drill_number : (s : List ℕ) → (drill_fault (values_of s)).number ≡ first_holding (drill_tests s)

@@ -18,7 +18,7 @@ use Rattle.tables.proofs.Loading.{own_right}
 use Rattle.strength.specs.Fraction.{Fraction, whole}
 use Rattle.strength.specs.Shear.{AtMostR, bearing}
 use Rattle.spacing.specs.Verdict.{Fault}
-use Rattle.spacing.specs.Spacing.{along_enough, end_passes}
+use Rattle.spacing.specs.Spacing.{along_enough, end_passes, edge_passes}
 use Rattle.spacing.specs.Search.{first_from, partner, first_pair}
 use Rattle.spacing.specs.Verdict.{fault, pair_fault, end_fault, edge_fault, verdict_in, member_verdict, spacing_verdict}
 use Rattle.joint.specs.declared.Outline.{Outline}
@@ -47,7 +47,7 @@ unfolding refusal_of refusal_number first_holding all_whole refusal14 entries_in
     all_follow chained refusal4 one_if once refusal5 positions_length refusal6 coordinate force class_in outline_within member_within
     members_within dowel_within coordinates positions_within loads_within fields_within outline_empty empty_outlines no_force drill_fault
     twos_complement i32_at part_of_pair pair_of_kind member_at members_in dowel_in column positions_in loads_in values_of pair_fault
-    end_fault edge_fault verdict_in member_verdict spacing_verdict along_enough end_passes first_from partner first_pair
+    end_fault edge_fault verdict_in member_verdict spacing_verdict along_enough end_passes edge_passes first_from partner first_pair
 refused_as = refl
 
 abbrev nothing : Graded

@@ -18,7 +18,7 @@ use Rattle.tables.specs.Classes.{class_in}
 use Rattle.tables.specs.Table.{Table, printed}
 use Rattle.strength.proofs.Falling.{falls}
 use Rattle.spacing.specs.Verdict.{Fault}
-use Rattle.spacing.specs.Spacing.{place, along_enough, end_passes}
+use Rattle.spacing.specs.Spacing.{place, along_enough, end_passes, edge_passes}
 use Rattle.spacing.specs.Search.{first_from, partner, first_pair}
 use Rattle.spacing.specs.Verdict.{fault, pair_fault, end_fault, edge_fault, verdict_in, member_verdict, spacing_verdict}
 use Rattle.group.specs.Rows.{count_to, OfRow, NotAbove, NotBelow, SomeRowAbove, share_over}
@@ -61,7 +61,7 @@ unfolding refusal_of refusal_number first_holding refusal1 refusal2 refusal3 num
     refusal6 coordinate force class_in printed_classes outline_within member_within members_within dowel_within coordinates positions_within
     loads_within fields_within outline_empty empty_outlines no_force drill_fault twos_complement i32_at part_of_pair pair_of_kind
     member_at members_in dowel_in column positions_in loads_in values_of pair_fault end_fault edge_fault verdict_in
-    member_verdict spacing_verdict along_enough end_passes first_from partner first_pair
+    member_verdict spacing_verdict along_enough end_passes edge_passes first_from partner first_pair
 refused_as = refl
 
 abbrev pub four_dowels : Positions

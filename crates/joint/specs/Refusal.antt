@@ -20,6 +20,8 @@ use Rattle.joint.specs.declared.Positions.{Positions}
 use Rattle.joint.specs.declared.Loads.{Loads}
 use Rattle.joint.specs.declared.Values.{Values}
 use Rattle.joint.specs.Answer.{Reading, Outcome}
+use Rattle.spacing.specs.declared.edge.EdgeRule.{EdgeRule}
+use Rattle.spacing.specs.declared.edge.EdgeRule.TheVariants.{Table8, Eurocode}
 use Rattle.spacing.specs.declared.view.Which.{Which}
 use Rattle.spacing.specs.declared.view.Which.TheVariants.{Member1, Member2}
 use Rattle.spacing.specs.declared.view.Piece.{Piece}
@@ -33,7 +35,7 @@ use Rattle.spacing.specs.Verdict.{fault, pair_fault, end_fault, edge_fault, spac
 unfoldable pub refusal1 : List ℕ → Bool
 refusal1 s = ltb (length s) 20
 
--- '2 version not 1'
+-- '2 version not 1'; 02, A7: 'Refusal 2 now means a version not yet known'
 unfoldable pub refusal2 : List ℕ → Bool
 refusal2 s = not (is_version (version s))
 
@@ -132,7 +134,7 @@ is_zero z = eqb (nat_abs z) 0
 unfoldable pub no_force : Loads → Bool
 no_force l = is_zero l.fx && is_zero l.fy
 
--- ---- The drill plan, of member k, 1 or 2, by the rules of 'Spacing'
+-- ---- The drill plan, of member k, 1 or 2, by the rules of 'Spacing'; the edges by the table that the version names
 abbrev pub spaced : Member → Piece
 spaced m =
     record { grain = m.grain; x0 = m.outline.x0; y0 = m.outline.y0; x1 = m.outline.x1; y1 = m.outline.y1 }
@@ -153,6 +155,11 @@ alongs k v = along (member_of k v).grain v.positions.x v.positions.y
 abbrev pub acrosses : ℕ → Values → List ℤ
 acrosses k v = across (member_of k v).grain v.positions.x v.positions.y
 
+-- 02, A7: 'Spacing verdicts are compared with the table that the record's version names'. 'A record of version 2 .. is judged by this rule', and
+-- 'Later versions build on version 2'. 'End and pair rules are those of 01.'
+abbrev pub edge_rule : ℕ → EdgeRule
+edge_rule version = cond (leb 2 version) Eurocode Table8
+
 -- '10 two dowels too close; 11 an end too near; 12 an edge too near', each with its place, or all 0 where there is none
 unfoldable pub fault10 : ℕ → Values → Fault
 fault10 k v = pair_fault k (frame k v) v.dowel.diameter (alongs k v) (acrosses k v) v.positions.n
@@ -161,7 +168,7 @@ unfoldable pub fault11 : ℕ → Values → Fault
 fault11 k v = end_fault k (frame k v) v.dowel.diameter (alongs k v) v.positions.n
 
 unfoldable pub fault12 : ℕ → Values → Fault
-fault12 k v = edge_fault k (frame k v) v.dowel.diameter (acrosses k v) v.positions.n
+fault12 k v = edge_fault (edge_rule v.version) k (frame k v) v.dowel.diameter (acrosses k v) v.positions.n
 
 abbrev pub is_fault : Fault → Bool
 is_fault f = not (eqb f.number 0)
@@ -204,7 +211,7 @@ refusal_number t s = first_holding (t.tests ++ record_tests t s)
 -- the first fault of the drill plan, or all 0
 unfoldable pub drill_fault : Values → Fault
 drill_fault v =
-    spacing_verdict (spaced v.members.member1) (spaced v.members.member2) v.dowel.diameter v.loads.fx
+    spacing_verdict (edge_rule v.version) (spaced v.members.member1) (spaced v.members.member2) v.dowel.diameter v.loads.fx
     v.loads.fy v.positions.x v.positions.y v.positions.n
 
 -- 'For 1 to 9 the place is 0, 0, 0'; for 14 to 16 too (02, A4, A6)

@@ -2,13 +2,28 @@
 ghost use Rattle.std.specs.Prelude.{◌≡◌};
 ghost use Rattle.spacing.specs.Spacing.{Given};
 ghost use Rattle.spacing.specs.Verdict.{told};
-ghost use Rattle.joint.specs.Refusal.{spaced, drill_fault};
+ghost use Rattle.joint.specs.Refusal.{edge_rule, spaced, drill_fault};
 ghost use Rattle.joint.specs.Stage.{IsPlanOf};
 
 use crate::{Member, Values};
+use spacing::edge::EdgeRule;
 use spacing::verdict;
 use spacing::verdict::Fault;
 use spacing::view::{Piece, Plan};
+
+// The first version whose edges are checked by Eurocode; later versions build on it (02, A7).
+const EUROCODE_EDGES: u16 = 2;
+
+// The table that a record's version names.
+fn edge_rule(version: u16) -> EdgeRule
+    ensures { result ≡ edge_rule version }
+{
+    if EUROCODE_EDGES <= version {
+        EdgeRule::Eurocode
+    } else {
+        EdgeRule::Table8
+    }
+}
 
 // A member as the spacing rules take it.
 impl From<Member> for Piece {
@@ -46,5 +61,10 @@ pub(crate) fn check(v: &Values, plan: Plan) -> Result<(), Fault>
     requires { IsPlanOf v.now plan }
     ensures { told result ≡ drill_fault v.now }
 {
-    verdict::spacing_verdict(v.members.member1.into(), v.members.member2.into(), plan)
+    verdict::spacing_verdict(
+        edge_rule(v.version),
+        v.members.member1.into(),
+        v.members.member2.into(),
+        plan,
+    )
 }

@@ -6,30 +6,46 @@ use Prim.Native.Nat.{ℕ, ◌+◌, ◌≤◌, ◌<◌}
 use borrow.Author.Tests.{lt-ltb, le-ltb}
 use native.Mathlib.Omega.{arith}
 use lib.Dec.{ltb, eqb}
-use lib.IntN.{ℤ, pos, neg_ℤ, nat_abs, ◌-ℤ◌}
-use lib.Signed.{le_z}
+use lib.IntN.{ℤ, pos, neg_ℤ, nat_abs, ◌+ℤ◌, ◌-ℤ◌}
+use lib.Signed.{le_z, lt_z}
+use mir.Syntax.{w32}
+use mir.Val.{SFits, to_z, of_z}
+use mir.Facts.{to_z-of_z}
 use Rattle.spacing.specs.declared.view.Which.{Which}
 use Rattle.spacing.specs.declared.view.Which.TheVariants.{Member1, Member2}
 use Rattle.spacing.specs.declared.view.Piece.{Piece}
-use Rattle.spacing.specs.declared.view.Frame.{Frame}
 use Rattle.spacing.specs.declared.view.View.{View}
 use Rattle.std.specs.Prelude.{Some}
 use Rattle.spacing.specs.declared.verdict.Fault.{Fault as Refusal}
 use Rattle.spacing.specs.declared.verdict.Fault.TheVariants.{DowelsTooClose, EndTooNear, EdgeTooNear}
 use Rattle.spacing.specs.Search.{partner, first_pair, PairIs}
-use Rattle.spacing.specs.Spacing.{along, across, force_in, view_of, square, squared_force, place, end_too_near, Components}
-use Rattle.spacing.specs.Limits.{EndLimit, outside}
+use Rattle.spacing.specs.Spacing.{along, across, force_in, view_of, place, Components}
+use Rattle.spacing.specs.Limits.{SideLimit, outside}
 use Rattle.spacing.specs.Verdict.{Fault, fault, one_dowel, or_else, fault_of}
-use Rattle.spacing.proofs.Integers.{nat_abs_neg}
+use Rattle.spacing.proofs.Integers.{nat_abs_neg, small_read, inwards, outwards, above_zero, below_zero}
 
--- ---- a whole limit tests what the rule tests
-pub end_same :
-    (v : Frame) (d low high : ℕ) (a : List ℤ) →
-    EndLimit (le_z (pos 1) (neg_ℤ v.force)) d (square v.sideways) (squared_force v.force v.sideways) low →
-    EndLimit (le_z (pos 1) v.force) d (square v.sideways) (squared_force v.force v.sideways) high →
-    outside v.low v.high low high a ≡ end_too_near v d a
-end_same v d low high a l h =
-    fun_ext λ i. ap₂ (λ s t. not (s && t)) (sym (l.decides (place a i -ℤ v.low))) (sym (h.decides (v.high -ℤ place a i)))
+-- ---- bounds test what a rule tests at both sides, low and high, of which a component f of the force loads one
+same_sides :
+    (low high : ℤ) (under over : ℕ) (near far : ℤ → Bool) (v : List ℤ) → SideLimit near under → SideLimit far over →
+    outside (low +ℤ pos under) (high -ℤ pos over) v ≡ (λ i. not (near (place v i -ℤ low) && far (high -ℤ place v i)))
+same_sides low high under over near far v l h =
+    fun_ext λ i.
+    let z = place v i in
+    ap₂ (λ s t. not (s && t)) (sym (l.decides (z -ℤ low) ∙ inwards under low z)) (sym (h.decides (high -ℤ z) ∙ outwards over z high))
+
+abbrev read : ℤ → ℤ
+read z = to_z w32 (of_z w32 z)
+
+pub bounds_are :
+    (passes : Bool → ℤ → Bool) (low high f : ℤ) {under over : ℕ} {least greatest : ℤ} → SFits w32 low → SFits w32 high → nat_abs f ≤ 1000000 →
+    (least ≡ read low +ℤ pos under) × (greatest ≡ read high -ℤ pos over) →
+    SideLimit (passes (lt_z (read f) (pos 0))) under → SideLimit (passes (lt_z (pos 0) (read f))) over →
+    (v : List ℤ) →
+    outside least greatest v ≡ (λ i. not (passes (le_z (pos 1) (neg_ℤ f)) (place v i -ℤ low) && passes (le_z (pos 1) f) (high -ℤ place v i)))
+bounds_are passes low high f {under} {over} l h small e p q v =
+    let r = small_read f small in
+    rw (e.0, e.1, to_z-of_z l, to_z-of_z h)
+    (same_sides low high under over _ _ v (rw (r, below_zero f) at p) (rw (r, above_zero f) at q))
 
 -- ---- what the search answers is the fault
 picked : (i n : ℕ) (f g : Fault) → i < n → f ≡ cond (ltb i n) f g

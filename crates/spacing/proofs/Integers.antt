@@ -1,7 +1,9 @@
 -- Sizes, signs and distances of signed numbers, and how they are read.
 use mathlib.Core.Path.{◌≡◌, refl, sym, ap, ◌∙◌}
-use Prim.Native.Nat.{zero, suc, ◌≤◌}
+use mathlib.Core.Bool.{Bool, true, false}
+use Prim.Native.Nat.{ℕ, zero, suc, ◌≤◌}
 use native.Mathlib.Omega.{arith}
+use borrow.Author.Differences.{ints}
 use borrow.Author.Tests.{lt-leb, le-leb}
 use lib.IntN.{ℤ, pos, negsuc, neg_ℤ, nat_abs, ◌+ℤ◌, ◌-ℤ◌, neg_ℤ-+ℤ, neg_ℤ-neg_ℤ, +ℤ_comm, +ℤ_idl, +ℤ_invr, -ℤ-+ℤ_cancel}
 use lib.Signed.{mag, le_z, lt_z}
@@ -43,6 +45,21 @@ same_place p q h = sym (-ℤ-+ℤ_cancel p q) ∙ ap (λ z. z +ℤ q) (none_is_z
 
 pub no_distance : (p : ℤ) → nat_abs (p -ℤ p) ≡ 0
 no_distance p = ap nat_abs (+ℤ_invr p)
+
+-- ---- at least r above `low` is at or above r more than it, and at least r below `high` at or below r less
+pub inwards : (r : ℕ) (low z : ℤ) → le_z (pos r) (z -ℤ low) ≡ le_z (low +ℤ pos r) z
+inwards r low z = of (le_z (pos r) (z -ℤ low)) refl
+  where
+    of : (b : Bool) → le_z (pos r) (z -ℤ low) ≡ b → b ≡ le_z (low +ℤ pos r) z
+    of true e = omega (arith, ints, e)
+    of false e = omega (arith, ints, e)
+
+pub outwards : (r : ℕ) (z high : ℤ) → le_z (pos r) (high -ℤ z) ≡ le_z z (high -ℤ pos r)
+outwards r z high = of (le_z (pos r) (high -ℤ z)) refl
+  where
+    of : (b : Bool) → le_z (pos r) (high -ℤ z) ≡ b → b ≡ le_z z (high -ℤ pos r)
+    of true e = omega (arith, ints, e)
+    of false e = omega (arith, ints, e)
 
 -- ---- a component above or below 0 is one of at least 1
 pub above_zero : (z : ℤ) → lt_z (pos 0) z ≡ le_z (pos 1) z

@@ -8,6 +8,7 @@ use native.Mathlib.Decide.{dec_lt, ℕ_discrete}
 use native.Mathlib.Omega.{arith}
 use borrow.Author.Tests.{lt-ltb, le-ltb, ltb-true, ltb-false, eq-eqb, ne_eqb}
 use lib.IntN.{ℤ}
+use Rattle.spacing.specs.declared.edge.EdgeRule.{EdgeRule}
 use Rattle.spacing.specs.declared.view.Which.{Which}
 use Rattle.spacing.specs.declared.view.Which.TheVariants.{Member1, Member2}
 use Rattle.spacing.specs.declared.view.Piece.{Piece}
@@ -63,53 +64,53 @@ module _ (bad : ℕ → ℕ → Bool) (n : ℕ) where
   no_two h k l p q = alone k l p q ((all (has_partner bad n) n).before k (omega arith) (omega arith))
 
 -- ---- the verdict of a member
-module _ (member : ℕ) (v : Frame) (d : ℕ) (a b : List ℤ) (n : ℕ) where
+module _ (rule : EdgeRule) (member : ℕ) (v : Frame) (d : ℕ) (a b : List ℤ) (n : ℕ) where
   says_edge :
-      Dec (first_from (edge_too_near v d b) 0 n < n) → NoPair (too_close v d a b) n → NoOne (end_too_near v d a) n →
-      MemberSays member v d a b n (edge_fault member v d b n)
+      Dec (first_from (edge_too_near rule v d b) 0 n < n) → NoPair (too_close v d a b) n → NoOne (end_too_near v d a) n →
+      MemberSays rule member v d a b n (edge_fault rule member v d b n)
   unfolding edge_fault
-  says_edge (yes h) p e = rw (lt-ltb _ _ h) (edge _ p e (first_one (edge_too_near v d b) n h))
+  says_edge (yes h) p e = rw (lt-ltb _ _ h) (edge _ p e (first_one (edge_too_near rule v d b) n h))
   says_edge (no h) p e =
-      let q : n ≤ first_from (edge_too_near v d b) 0 n = omega (arith, lt_of_not-le h) in
-      rw (le-ltb _ _ q) (passes p e (no_one (edge_too_near v d b) n q))
+      let q : n ≤ first_from (edge_too_near rule v d b) 0 n = omega (arith, lt_of_not-le h) in
+      rw (le-ltb _ _ q) (passes p e (no_one (edge_too_near rule v d b) n q))
 
   says_end :
       Dec (first_from (end_too_near v d a) 0 n < n) → NoPair (too_close v d a b) n →
-      MemberSays member v d a b n (or_else (end_fault member v d a n) (edge_fault member v d b n))
+      MemberSays rule member v d a b n (or_else (end_fault member v d a n) (edge_fault rule member v d b n))
   unfolding end_fault
   says_end (yes h) p = rw (lt-ltb _ _ h) (end _ p (first_one (end_too_near v d a) n h))
   says_end (no h) p =
       let q : n ≤ first_from (end_too_near v d a) 0 n = omega (arith, lt_of_not-le h) in
-      rw (le-ltb _ _ q) (says_edge (dec_lt (first_from (edge_too_near v d b) 0 n) n) p (no_one (end_too_near v d a) n q))
+      rw (le-ltb _ _ q) (says_edge (dec_lt (first_from (edge_too_near rule v d b) 0 n) n) p (no_one (end_too_near v d a) n q))
 
   says_pair :
       Dec (first_pair (too_close v d a b) n < n) →
-      MemberSays member v d a b n
-      (or_else (pair_fault member v d a b n) (or_else (end_fault member v d a n) (edge_fault member v d b n)))
+      MemberSays rule member v d a b n
+      (or_else (pair_fault member v d a b n) (or_else (end_fault member v d a n) (edge_fault rule member v d b n)))
   unfolding pair_fault
   says_pair (yes h) = rw (lt-ltb _ _ h) (close _ _ (first_two (too_close v d a b) n h))
   says_pair (no h) =
       let q : n ≤ first_pair (too_close v d a b) n = omega (arith, lt_of_not-le h) in
       rw (le-ltb _ _ q) (says_end (dec_lt (first_from (end_too_near v d a) 0 n) n) (no_two (too_close v d a b) n q))
 
-  pub verdict_says : MemberSays member v d a b n (verdict_in member v d a b n)
+  pub verdict_says : MemberSays rule member v d a b n (verdict_in rule member v d a b n)
   unfolding verdict_in
   verdict_says = says_pair (dec_lt (first_pair (too_close v d a b) n) n)
 
 pub member_says :
-    (which : Which) (m : Piece) (d : ℕ) (fx fy : ℤ) (x y : List ℤ) (n : ℕ) →
-    Says which m d fx fy x y n (member_verdict which m d fx fy x y n)
+    (rule : EdgeRule) (which : Which) (m : Piece) (d : ℕ) (fx fy : ℤ) (x y : List ℤ) (n : ℕ) →
+    Says rule which m d fx fy x y n (member_verdict rule which m d fx fy x y n)
 unfolding member_verdict
-member_says which m d fx fy x y n = verdict_says (number_of which) _ d _ _ n
+member_says rule which m d fx fy x y n = verdict_says rule (number_of which) _ d _ _ n
 
-module _ (m₁ m₂ : Piece) (d : ℕ) (fx fy : ℤ) (x y : List ℤ) (n : ℕ) where
+module _ (rule : EdgeRule) (m₁ m₂ : Piece) (d : ℕ) (fx fy : ℤ) (x y : List ℤ) (n : ℕ) where
   by_member1 :
-      (f g : Fault) → Dec (f.number ≡ 0) → Says Member1 m₁ d fx fy x y n f → Says Member2 m₂ d fx fy x y n g →
-      JointSays m₁ m₂ d fx fy x y n (or_else f g)
+      (f g : Fault) → Dec (f.number ≡ 0) → Says rule Member1 m₁ d fx fy x y n f → Says rule Member2 m₂ d fx fy x y n g →
+      JointSays rule m₁ m₂ d fx fy x y n (or_else f g)
   by_member1 f g (yes h) p q = rw (eq-eqb f.number 0 h) (member2 f g h p q)
   by_member1 f g (no h) p q = rw (ne_eqb f.number 0 h) (member1 f h p)
 
-  pub spacing_says : JointSays m₁ m₂ d fx fy x y n (spacing_verdict m₁ m₂ d fx fy x y n)
+  pub spacing_says : JointSays rule m₁ m₂ d fx fy x y n (spacing_verdict rule m₁ m₂ d fx fy x y n)
   unfolding spacing_verdict
   spacing_says =
-      by_member1 _ _ (ℕ_discrete _ 0) (member_says Member1 m₁ d fx fy x y n) (member_says Member2 m₂ d fx fy x y n)
+      by_member1 _ _ (ℕ_discrete _ 0) (member_says rule Member1 m₁ d fx fy x y n) (member_says rule Member2 m₂ d fx fy x y n)

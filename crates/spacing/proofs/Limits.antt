@@ -1,20 +1,23 @@
--- A whole number decides each irrational limit of Table 8.
+-- A whole number decides each irrational limit of Table 8 and of Eurocode's edges.
 use mathlib.Core.Path.{◌≡◌, refl, sym, ap, ap₂, ◌∙◌}
-use mathlib.Core.Bool.{true, false, ◌&&◌, and-false}
+use mathlib.Core.Bool.{Bool, true, false, ◌&&◌, and-false}
 use Prim.Native.Nat.{ℕ, zero, suc, ◌+◌, ◌-◌, ◌*◌, ◌/◌, ◌≤◌, ◌<◌, max}
 use native.Mathlib.Nat.{lt_of_not-le, not-le_of_lt, mul-le-mul, mul-le-mul_right, mul-le-mul_left, div-add-mod', mod-lt, le_trans}
 use native.Mathlib.Decide.{dec_le}
 use native.Mathlib.Omega.{arith}
+use borrow.Author.Differences.{ints}
 use borrow.Author.Tests.{le-leb, lt-leb, leb-true}
 use lib.Dec.{leb, leb-zero}
-use lib.IntN.{ℤ, pos, negsuc, nat_abs}
+use lib.IntN.{ℤ, pos, negsuc, nat_abs, ◌-ℤ◌}
 use lib.Signed.{le_z}
 use mir.Syntax.{w32}
 use mir.Val.{to_z, of_z}
 use Rattle.wide.proofs.Tests.{same_test}
 use Rattle.strength.specs.Roots.{SquareRoot}
-use Rattle.spacing.specs.Spacing.{along_enough, end_passes, square, squared_force, Components}
-use Rattle.spacing.specs.Limits.{LeastPart, PairLimit, EndLimit}
+use Rattle.spacing.specs.declared.edge.EdgeRule.{EdgeRule}
+use Rattle.spacing.specs.declared.edge.EdgeRule.TheVariants.{Table8, Eurocode}
+use Rattle.spacing.specs.Spacing.{along_enough, end_passes, edge_passes, square, squared_force, Components}
+use Rattle.spacing.specs.Limits.{LeastPart, PairLimit, SideLimit}
 use Rattle.spacing.proofs.Integers.{small_read}
 
 module _ (w total q r : ℕ) (force : 0 < total) (root : SquareRoot q r) (low : q * total ≤ w) (high : w < (q + 1) * total) where
@@ -101,9 +104,9 @@ loaded_decides : (A B : ℕ) (z : ℤ) → le_z (pos A) z && le_z (pos B) z ≡ 
 loaded_decides A B (pos n) = greatest A B n
 loaded_decides A B (negsuc n) = refl
 
-pub loaded_limit : (d part total : ℕ) → EndLimit true d part total (max (70 * d) 800)
+pub loaded_limit : (d part total : ℕ) → d ≤ 30 → SideLimit (end_passes true d part total) (max (70 * d) 800)
 unfolding end_passes
-loaded_limit d part total = record { decides = loaded_decides (70 * d) 800 }
+loaded_limit d part total t = record { decides = loaded_decides (70 * d) 800; small = omega (arith, t) }
 
 other_decides :
     (k part total r A : ℕ) → LeastPart k part total r → (z : ℤ) →
@@ -111,6 +114,47 @@ other_decides :
 other_decides k part total r A l (pos n) = rw (l.decides n) (greatest r A n)
 other_decides k part total r A l (negsuc n) = and-false (leb (k * k * part) (square (negsuc n) * total))
 
-pub other_limit : (d part total r : ℕ) → LeastPart (70 * d) part total r → EndLimit false d part total (max r (30 * d))
+pub other_limit :
+    (d part total r : ℕ) → d ≤ 30 → part ≤ total → LeastPart (70 * d) part total r →
+    SideLimit (end_passes false d part total) (max r (30 * d))
 unfolding end_passes
-other_limit d part total r l = record { decides = other_decides (70 * d) part total r (30 * d) l }
+other_limit d part total r t p l = record {
+  decides = other_decides (70 * d) part total r (30 * d) l;
+  small = omega (arith, t, least_part_bound l p);
+}
+
+-- an edge that asks 3d alone
+pub table8_edge : (loaded : Bool) (d part total : ℕ) → d ≤ 30 → SideLimit (edge_passes Table8 loaded d part total) (30 * d)
+unfolding edge_passes
+table8_edge loaded d part total t = record { decides = λ z. refl; small = omega (arith, t) }
+
+pub plain_edge : (rule : EdgeRule) (d part total : ℕ) → d ≤ 30 → SideLimit (edge_passes rule false d part total) (30 * d)
+unfolding edge_passes
+plain_edge Table8 d part total t = table8_edge false d part total t
+plain_edge Eurocode d part total t = record { decides = λ z. refl; small = omega (arith, t) }
+
+-- A and the root more: n - A is not negative, and its square is the square of the difference
+more : (k part total r A n : ℕ) → LeastPart k part total r →
+    leb A n && leb (k * k * part) (square (pos n -ℤ pos A) * total) ≡ leb (A + r) n
+more k part total r A n l = go (dec_le A n)
+  where
+    go : Dec (A ≤ n) → leb A n && leb (k * k * part) (square (pos n -ℤ pos A) * total) ≡ leb (A + r) n
+    go (yes p) =
+        let e : nat_abs (pos n -ℤ pos A) ≡ n - A = omega (arith, ints, p) in
+        rw e (ap (λ t. leb A n && t) (l.decides (n - A)) ∙ both A r n)
+    go (no p) = rw (lt-leb A n (lt_of_not-le p)) (sym (lt-leb (A + r) n (omega (arith, lt_of_not-le p))))
+
+edge_decides :
+    (k part total r A B : ℕ) → LeastPart k part total r → (z : ℤ) →
+    le_z (pos A) z && leb (k * k * part) (square (z -ℤ pos A) * total) && le_z (pos B) z ≡ le_z (pos (max (A + r) B)) z
+edge_decides k part total r A B l (pos n) = ap (λ t. t && leb B n) (more k part total r A n l) ∙ greatest (A + r) B n
+edge_decides k part total r A B l (negsuc n) = refl
+
+pub loaded_edge :
+    (d part total r : ℕ) → d ≤ 30 → part ≤ total → LeastPart (20 * d) part total r →
+    SideLimit (edge_passes Eurocode true d part total) (max (20 * d + r) (30 * d))
+unfolding edge_passes
+loaded_edge d part total r t p l = record {
+  decides = edge_decides (20 * d) part total r (20 * d) (30 * d) l;
+  small = omega (arith, t, least_part_bound l p);
+}

@@ -1,7 +1,9 @@
--- Spacing of the dowels of a member (01, 'Spacing (000, Table 8)'). Lengths are tenths of a millimetre, d is in mm, forces in N.
--- All comparisons are exact. Irrational limits are met through their squares.
+-- Spacing of the dowels of a member (01, 'Spacing (000, Table 8)'; 02, A7: the edges by EN 1995-1-1, Table 8.5). Lengths are tenths of a
+-- millimetre, d is in mm, forces in N. All comparisons are exact. Irrational limits are met through their squares.
 use Rattle.std.specs.Prelude.{ℕ, ◌+◌, ◌-◌, ◌*◌, ◌≤◌, ◌<◌, Bool, cond, not, ◌&&◌, ◌||◌, List, get_or, leb, eqb, ℤ, pos, neg_ℤ, nat_abs, ◌-ℤ◌}
 use Rattle.std.specs.Int.Signed.{le_z}
+use Rattle.spacing.specs.declared.edge.EdgeRule.{EdgeRule}
+use Rattle.spacing.specs.declared.edge.EdgeRule.TheVariants.{Table8, Eurocode}
 use Rattle.spacing.specs.declared.view.Which.{Which}
 use Rattle.spacing.specs.declared.view.Which.TheVariants.{Member1, Member2}
 use Rattle.spacing.specs.declared.view.Piece.{Piece}
@@ -73,9 +75,23 @@ ends_pass v d a =
     end_passes (le_z (pos 1) (neg_ℤ v.force)) d (square v.sideways) (squared_force v.force v.sideways) (a -ℤ v.low)
     && end_passes (le_z (pos 1) v.force) d (square v.sideways) (squared_force v.force v.sideways) (v.high -ℤ a)
 
--- Both edges: at least 3d.
-abbrev pub edges_pass : Frame → ℕ → ℤ → Bool
-edges_pass v d b = le_z (pos (30 * d)) (b -ℤ v.left) && le_z (pos (30 * d)) (v.right -ℤ b)
+-- Both edges: at least 3d. By EN 1995-1-1, Table 8.5 (02, A7) 'a loaded edge needs (2 + 2 sin α) d and at least 3d', 'the other needs 3d'. A
+-- distance z reaches 20 d + 20 d sin α tenths where z - 20 d is not negative and its square is at least (20 d)² sin²α, with
+-- sin²α = part/total.
+unfoldable pub edge_passes : EdgeRule → Bool → ℕ → ℕ → ℕ → ℤ → Bool
+edge_passes Table8 loaded d part total z = le_z (pos (30 * d)) z
+edge_passes Eurocode loaded d part total z =
+    cond loaded
+    (le_z (pos (20 * d)) z && leb (20 * d * (20 * d) * part) (square (z -ℤ pos (20 * d)) * total)
+    && le_z (pos (30 * d)) z)
+    (le_z (pos (30 * d)) z)
+
+-- Edges lie along the grain. 'The edge towards which the force in that member has a component is the loaded one': the left one where the
+-- force across is below 0, the right one where it is above 0.
+abbrev pub edges_pass : EdgeRule → Frame → ℕ → ℤ → Bool
+edges_pass rule v d b =
+    edge_passes rule (le_z (pos 1) (neg_ℤ v.sideways)) d (square v.sideways) (squared_force v.force v.sideways) (b -ℤ v.left)
+    && edge_passes rule (le_z (pos 1) v.sideways) d (square v.sideways) (squared_force v.force v.sideways) (v.right -ℤ b)
 
 -- The rules at the dowels of a record, with a their coordinates along and b across.
 abbrev pub too_close : Frame → ℕ → List ℤ → List ℤ → ℕ → ℕ → Bool
@@ -84,8 +100,8 @@ too_close v d a b i j = not (pair_passes v d (distance a i j) (distance b i j))
 abbrev pub end_too_near : Frame → ℕ → List ℤ → ℕ → Bool
 end_too_near v d a i = not (ends_pass v d (place a i))
 
-abbrev pub edge_too_near : Frame → ℕ → List ℤ → ℕ → Bool
-edge_too_near v d b i = not (edges_pass v d (place b i))
+abbrev pub edge_too_near : EdgeRule → Frame → ℕ → List ℤ → ℕ → Bool
+edge_too_near rule v d b i = not (edges_pass rule v d (place b i))
 
 -- What the record's limits guarantee and the search needs: the diameter, the components of a force, not both 0, the number
 -- of dowels.

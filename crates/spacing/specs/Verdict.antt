@@ -1,5 +1,6 @@
 -- The verdict of a member: the first fault in the order 10, 11, 12 with its place (01, 'Who causes which refusal').
 use Rattle.std.specs.Prelude.{ℕ, ◌+◌, cond, List, ltb, eqb, ℤ, Result, Ok, Err}
+use Rattle.spacing.specs.declared.edge.EdgeRule.{EdgeRule}
 use Rattle.spacing.specs.declared.view.Which.{Which}
 use Rattle.spacing.specs.declared.view.Which.TheVariants.{Member1, Member2}
 use Rattle.spacing.specs.declared.view.Piece.{Piece}
@@ -32,31 +33,31 @@ one_dowel number member i n = cond (ltb i n) (fault number member (i + 1) 0) (fa
 unfoldable pub end_fault : ℕ → Frame → ℕ → List ℤ → ℕ → Fault
 end_fault member v d a n = one_dowel 11 member (first_from (end_too_near v d a) 0 n) n
 
-unfoldable pub edge_fault : ℕ → Frame → ℕ → List ℤ → ℕ → Fault
-edge_fault member v d b n = one_dowel 12 member (first_from (edge_too_near v d b) 0 n) n
+unfoldable pub edge_fault : EdgeRule → ℕ → Frame → ℕ → List ℤ → ℕ → Fault
+edge_fault rule member v d b n = one_dowel 12 member (first_from (edge_too_near rule v d b) 0 n) n
 
 -- the first fault, where there is one, else the second
 abbrev pub or_else : Fault → Fault → Fault
 or_else f g = cond (eqb f.number 0) g f
 
 -- the first fault in the order 10, 11, 12
-unfoldable pub verdict_in : ℕ → Frame → ℕ → List ℤ → List ℤ → ℕ → Fault
-verdict_in member v d a b n =
-    or_else (pair_fault member v d a b n) (or_else (end_fault member v d a n) (edge_fault member v d b n))
+unfoldable pub verdict_in : EdgeRule → ℕ → Frame → ℕ → List ℤ → List ℤ → ℕ → Fault
+verdict_in rule member v d a b n =
+    or_else (pair_fault member v d a b n) (or_else (end_fault member v d a n) (edge_fault rule member v d b n))
 
 -- A place names member 1 as 1 and member 2 as 2.
 abbrev pub number_of : Which → ℕ
 number_of Member1 = 1
 number_of Member2 = 2
 
-unfoldable pub member_verdict : Which → Piece → ℕ → ℤ → ℤ → List ℤ → List ℤ → ℕ → Fault
-member_verdict which m d fx fy x y n =
-    verdict_in (number_of which) (frame_of which m fx fy) d (along m.grain x y) (across m.grain x y) n
+unfoldable pub member_verdict : EdgeRule → Which → Piece → ℕ → ℤ → ℤ → List ℤ → List ℤ → ℕ → Fault
+member_verdict rule which m d fx fy x y n =
+    verdict_in rule (number_of which) (frame_of which m fx fy) d (along m.grain x y) (across m.grain x y) n
 
 -- Member 1 for 10, 11, 12, then member 2.
-unfoldable pub spacing_verdict : Piece → Piece → ℕ → ℤ → ℤ → List ℤ → List ℤ → ℕ → Fault
-spacing_verdict m₁ m₂ d fx fy x y n =
-    or_else (member_verdict Member1 m₁ d fx fy x y n) (member_verdict Member2 m₂ d fx fy x y n)
+unfoldable pub spacing_verdict : EdgeRule → Piece → Piece → ℕ → ℤ → ℤ → List ℤ → List ℤ → ℕ → Fault
+spacing_verdict rule m₁ m₂ d fx fy x y n =
+    or_else (member_verdict rule Member1 m₁ d fx fy x y n) (member_verdict rule Member2 m₂ d fx fy x y n)
 
 -- ---- what the answers of the code say in these numbers
 abbrev pub fault_of : Refusal → Fault

@@ -1,5 +1,5 @@
-// Each irrational limit of Table 8 as the least whole number of tenths that passes, found once for the pairs and for each end of a member.
-ghost use Rattle.std.specs.Prelude.{◌≡◌, ◌≤◌, List, ℤ};
+// Each irrational limit as the least whole number of tenths that passes, found once for the pairs and for each end and edge of a member.
+ghost use Rattle.std.specs.Prelude.{◌≡◌, ◌≤◌, List, ℤ, pos, ◌+ℤ◌, ◌-ℤ◌};
 ghost use Rattle.spacing.specs.Spacing.{
   square,
   squared_force,
@@ -12,10 +12,12 @@ ghost use Rattle.spacing.specs.Limits.{
   LeastPart,
   PairLimit,
   EndLimit,
+  EdgeLimit,
   close_by,
   outside,
 };
 
+use crate::edge::EdgeRule;
 use crate::force::{square, squared_force};
 use crate::view::Measured;
 use strength::roots;
@@ -32,6 +34,9 @@ const END: u64 = 70;
 // 80 mm to a loaded end, in tenths.
 const LOADED_END: u64 = 800;
 
+// By Eurocode 2d + 2d sin α to a loaded edge.
+const LOADED_EDGE: u64 = 20;
+
 // The least distances of two dowels, of which they are to keep one.
 #[derive(Clone, Copy)]
 pub struct Least {
@@ -39,13 +44,23 @@ pub struct Least {
     pub across: u64,
 }
 
-// Two ends or two edges, and the least distance from each.
+// The least and the greatest coordinate that pass, between two ends or two edges. As i64: up to 2,100 tenths inwards from an outline may lie past
+// an i32.
 #[derive(Clone, Copy)]
-pub struct Sides {
-    pub low: i32,
-    pub high: i32,
-    pub under: u64,
-    pub over: u64,
+pub struct Bounds {
+    pub least: i64,
+    pub greatest: i64,
+}
+
+// The bounds between two sides, by the least distance from each.
+fn between(low: i32, high: i32, under: u64, over: u64) -> Bounds
+    requires { (under ≤ 2100) × (over ≤ 2100) }
+    ensures { (result.least ≡ low +ℤ pos under) × (result.greatest ≡ high -ℤ pos over) }
+{
+    Bounds {
+        least: low as i64 + under as i64,
+        greatest: high as i64 - over as i64,
+    }
 }
 
 // The least e with k² part ≤ e² total: k times the root of part/total, rounded up.
@@ -71,10 +86,10 @@ impl Measured {
         APART * d + least_part(APART_ALONG * d, square(v.force), total)
     }
 
-    // The least distance to an end: 7d and 80 mm where it is loaded, else 7d sin α and 3d. `EndLimit` takes `loaded` as it stands: two functions
+    // The least distance to an end: 7d and 80 mm where it is loaded, else 7d sin α and 3d. `loaded` is handed on as it stands: two functions
     // would repeat the call at each end.
     fn from_end(&self, loaded: bool) -> u64
-        ensures { let v = self.now.view.frame in EndLimit loaded self.now.diameter (square v.sideways) (squared_force v.force v.sideways) result }
+        ensures { let m = self.now in EndLimit m.view.frame m.diameter loaded result }
     {
         let d = self.diameter;
         if loaded {
@@ -83,6 +98,26 @@ impl Measured {
         let v = self.view.frame;
         let total = squared_force(v.force, v.sideways);
         least_part(END * d, square(v.sideways), total).max(APART * d)
+    }
+
+    // The least distance to an edge: 3d, and by Eurocode 2d + 2d sin α too where it is loaded.
+    fn from_edge(&self, loaded: bool) -> u64
+        ensures { let m = self.now in EdgeLimit m.rule m.view.frame m.diameter loaded result }
+    {
+        let d = self.diameter;
+        let apart = APART * d;
+        if !loaded {
+            return apart;
+        }
+        match self.rule {
+            EdgeRule::Table8 => apart,
+            EdgeRule::Eurocode => {
+                let v = self.view.frame;
+                let total = squared_force(v.force, v.sideways);
+                let sideways = least_part(LOADED_EDGE * d, square(v.sideways), total);
+                (LOADED_EDGE * d + sideways).max(apart)
+            }
+        }
     }
 
     // Between two dowels of a member.
@@ -95,29 +130,29 @@ impl Measured {
         }
     }
 
-    // To the ends of a member.
-    pub(crate) fn ends(&self) -> Sides
-        ensures { let m = self.now in (a : List ℤ) → outside result.low result.high result.under result.over a ≡ end_too_near m.view.frame m.diameter a }
+    // Between the ends of a member.
+    pub(crate) fn ends(&self) -> Bounds
+        ensures { let m = self.now in (a : List ℤ) → outside result.least result.greatest a ≡ end_too_near m.view.frame m.diameter a }
     {
         let v = self.view.frame;
-        Sides {
-            low: v.low,
-            high: v.high,
-            under: self.from_end(v.force < 0),
-            over: self.from_end(v.force > 0),
-        }
+        between(
+            v.low,
+            v.high,
+            self.from_end(v.force < 0),
+            self.from_end(v.force > 0),
+        )
     }
 
-    // To its edges.
-    pub(crate) fn edges(&self) -> Sides
-        ensures { let m = self.now in (b : List ℤ) → outside result.low result.high result.under result.over b ≡ edge_too_near m.view.frame m.diameter b }
+    // Between its edges.
+    pub(crate) fn edges(&self) -> Bounds
+        ensures { let m = self.now in (b : List ℤ) → outside result.least result.greatest b ≡ edge_too_near m.rule m.view.frame m.diameter b }
     {
         let v = self.view.frame;
-        Sides {
-            low: v.left,
-            high: v.right,
-            under: APART * self.diameter,
-            over: APART * self.diameter,
-        }
+        between(
+            v.left,
+            v.right,
+            self.from_edge(v.sideways < 0),
+            self.from_edge(v.sideways > 0),
+        )
     }
 }

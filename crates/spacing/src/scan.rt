@@ -1,10 +1,9 @@
 // Searches through the dowels, by comparisons with whole limits only. Dowels are counted from 0.
-ghost use Rattle.std.specs.Prelude.{◌≡◌, ◌<◌, ◌≤◌, pos, ◌-ℤ◌};
-ghost use Rattle.std.specs.Int.Signed.{le_z};
+ghost use Rattle.std.specs.Prelude.{◌≡◌, ◌<◌, ◌≤◌};
 ghost use Rattle.spacing.specs.Search.{FirstIs, PairIs, first_from, partner};
-ghost use Rattle.spacing.specs.Limits.{near_limit, close_by, outside};
+ghost use Rattle.spacing.specs.Limits.{close_by, past, outside};
 
-use crate::limit::{Least, Sides};
+use crate::limit::{Bounds, Least};
 use crate::view::Measured;
 
 impl Least {
@@ -17,19 +16,12 @@ impl Least {
     }
 }
 
-// Whether `to` lies at least `least` tenths above `from`; below it the distance is negative.
-fn reaches(from: i32, to: i32, least: u64) -> bool
-    ensures { result ≡ le_z (pos least) (to -ℤ from) }
-{
-    from <= to && least <= to.abs_diff(from) as u64
-}
-
-impl Sides {
-    // Whether a dowel lies nearer to the low or the high side than is asked there, or outside.
-    fn too_near(self, z: i32) -> bool
-        ensures { result ≡ near_limit self.low self.high self.under self.over z }
+impl Bounds {
+    // Whether a coordinate lies below the least or above the greatest that passes.
+    fn leaves_out(self, z: i32) -> bool
+        ensures { result ≡ past self.least self.greatest z }
     {
-        !(reaches(self.low, z, self.under) && reaches(z, self.high, self.over))
+        !(self.least..=self.greatest).contains(&(z as i64))
     }
 }
 
@@ -56,9 +48,9 @@ impl Measured {
     }
 
     // The first dowel that lies too near to the low or the high side, or outside, by its coordinates along or across.
-    pub(crate) fn first_outside(&self, v: &[i32; 64], sides: Sides) -> Option<usize>
-        ensures { let n = self.now.count in FirstIs result (first_from (outside sides.low sides.high sides.under sides.over v.now) 0 n) n }
+    pub(crate) fn first_outside(&self, v: &[i32; 64], bounds: Bounds) -> Option<usize>
+        ensures { let n = self.now.count in FirstIs result (first_from (outside bounds.least bounds.greatest v.now) 0 n) n }
     {
-        (0..self.count).find(|i| sides.too_near(v[*i]))
+        (0..self.count).find(|i| bounds.leaves_out(v[*i]))
     }
 }

@@ -1,6 +1,5 @@
 // The spacing verdict of a member and of both members (01, 'Who causes which refusal', 10 to 12).
 ghost use Rattle.std.specs.Prelude.{◌≡◌, ◌≤◌};
-ghost use Rattle.spacing.specs.Spacing.{Given};
 ghost use Rattle.spacing.specs.Verdict.{
   number_of,
   fault_of,
@@ -13,7 +12,8 @@ ghost use Rattle.spacing.specs.Verdict.{
   spacing_verdict,
 };
 
-use crate::view::{Measured, Piece, Plan, View, Which};
+use crate::edge::EdgeRule;
+use crate::view::{Measured, Piece, Plan, Which};
 
 // A refusal with its place, dowels counted from 1.
 #[derive(Clone, Copy, PartialEq, Eq, Debug)]
@@ -106,9 +106,9 @@ impl Measured {
         }
     }
 
-    // Refusal 12: an edge too near. One function for both would have to be told limits, list and case; what they share is `first_outside`.
+    // Refusal 12: an edge too near. One function for both would have to be told bounds, list and case; what they share is `first_outside`.
     fn edge_fault(&self) -> Result<(), Fault>
-        ensures { let m = self.now in told result ≡ edge_fault (number_of m.member) m.view.frame m.diameter m.view.across m.count }
+        ensures { let m = self.now in told result ≡ edge_fault m.rule (number_of m.member) m.view.frame m.diameter m.view.across m.count }
     {
         let edges = self.edges();
         match self.first_outside(&self.view.across, edges) {
@@ -119,36 +119,41 @@ impl Measured {
             }),
         }
     }
-}
 
-// The verdict of a member by what it measures: the first fault in the order 10, 11, 12.
-pub fn member_verdict(member: Which, view: View, d: u64, count: usize) -> Result<(), Fault>
-    requires { Given d view.frame.force view.frame.sideways count }
-    ensures { told result ≡ verdict_in (number_of member) view.frame d view.along view.across count }
-{
-    let measured = Measured {
-        member,
-        view,
-        diameter: d,
-        count,
-    };
-    measured.pair_fault()?;
-    measured.end_fault()?;
-    measured.edge_fault()
+    // The first fault in the order 10, 11, 12.
+    fn verdict(&self) -> Result<(), Fault>
+        ensures { let m = self.now in told result ≡ verdict_in m.rule (number_of m.member) m.view.frame m.diameter m.view.along m.view.across m.count }
+    {
+        self.pair_fault()?;
+        self.end_fault()?;
+        self.edge_fault()
+    }
 }
 
 // The verdict of a member by its view.
-fn viewed(which: Which, m: Piece, plan: Plan) -> Result<(), Fault>
-    ensures { told result ≡ member_verdict which m plan.diameter plan.fx plan.fy plan.x plan.y plan.count }
+fn viewed(rule: EdgeRule, which: Which, m: Piece, plan: Plan) -> Result<(), Fault>
+    ensures { told result ≡ member_verdict rule which m plan.diameter plan.fx plan.fy plan.x plan.y plan.count }
 {
-    member_verdict(which, plan.view(which, m), plan.diameter, plan.count)
+    Measured {
+        rule,
+        member: which,
+        view: plan.view(which, m),
+        diameter: plan.diameter,
+        count: plan.count,
+    }
+    .verdict()
 }
 
-// The verdict of both members, member 1 first. Members and plan stay three parameters: callers have them apart, and a struct of them would be
-// made there to be taken apart here.
-pub fn spacing_verdict(member1: Piece, member2: Piece, plan: Plan) -> Result<(), Fault>
-    ensures { told result ≡ spacing_verdict member1 member2 plan.diameter plan.fx plan.fy plan.x plan.y plan.count }
+// The verdict of both members, member 1 first. Rule, members and plan stay four parameters: callers have them apart, and a struct of them would
+// be made there to be taken apart here.
+pub fn spacing_verdict(
+    rule: EdgeRule,
+    member1: Piece,
+    member2: Piece,
+    plan: Plan,
+) -> Result<(), Fault>
+    ensures { told result ≡ spacing_verdict rule member1 member2 plan.diameter plan.fx plan.fy plan.x plan.y plan.count }
 {
-    viewed(Which::Member1, member1, plan)?;
-    viewed(Which::Member2, member2, plan)
+    viewed(rule, Which::Member1, member1, plan)?;
+    viewed(rule, Which::Member2, member2, plan)
 }

@@ -3,6 +3,8 @@ ghost use Rattle.std.specs.Prelude.{◌≡◌, ◌≤◌, nat_abs};
 ghost use Rattle.spacing.specs.Spacing.{force_in, view_of, Given};
 ghost use Rattle.spacing.specs.Verdict.{number_of};
 
+use crate::edge::EdgeRule;
+
 // The dowels put the force into member 2, and its opposite into member 1.
 #[derive(Clone, Copy, PartialEq, Eq, Debug)]
 pub enum Which {
@@ -52,9 +54,11 @@ pub struct View {
     pub across: [i32; 64],
 }
 
-// A member as the searches take it: how a place names it, what it measures, and the diameter and the number of the dowels.
+// A member as the searches take it: the rule of its edges, how a place names it, what it measures, and the diameter and the number of the
+// dowels.
 #[derive(Clone, Copy)]
 pub(crate) struct Measured {
+    pub rule: EdgeRule,
     pub member: Which,
     pub view: View,
     pub diameter: u64,

@@ -1,4 +1,5 @@
-// Runs the spacing verdict and the shares on the joints of standard input, one line a joint.
+// Runs the spacing verdict by each table and the shares on the joints of standard input, one line a joint: refusal and place by Table 8, the
+// share of each member, refusal and place by Eurocode.
 // A number is a sign and seven digits with one space or line end after it: nine bytes. A joint is d fx fy, then grain x0 y0 x1
 // y1 of member 1 and of member 2, then the number of dowels, and x y of each; numbers past the end are 0. Then the shares of the
 // rows of 001's Table 13-2, as 001 prints them.
@@ -7,12 +8,13 @@
 ghost use Rattle.std.specs.Prelude.{◌+◌, ◌*◌, ◌≤◌, length, IfSome};
 
 use group::{member, share};
+use spacing::edge::EdgeRule;
 use spacing::verdict::{self, Fault};
 use spacing::view::{Piece, Plan};
 use std::{array, io};
 
 // The most bytes that are read.
-const MOST_BYTES: usize = 65536;
+const MOST_BYTES: usize = 131072;
 
 // How many a number has, and how many of them are digits.
 const FIELD: usize = 9;
@@ -20,7 +22,7 @@ const FIELD: usize = 9;
 const DIGITS: usize = 7;
 
 // The last number that a joint may start at.
-const LAST_START: usize = 7100;
+const LAST_START: usize = 14400;
 
 // The numbers of a joint with 64 dowels.
 const MOST_FIELDS: usize = 142;
@@ -99,13 +101,15 @@ fn place_of(verdict: Result<(), Fault>) -> [u8; 4] {
 fn judge(rt: &HostRuntime, member1: Piece, member2: Piece, plan: Plan) -> io::Result<()>
     requires { (6 ≤ plan.diameter) × (1 ≤ plan.count) }
 {
-    let [number, member, first, second] = place_of(verdict::spacing_verdict(
-        member1, member2, plan,
-    ));
+    let by = |edges| place_of(verdict::spacing_verdict(edges, member1, member2, plan));
+    let [number, member, first, second] = by(EdgeRule::Table8);
+    let [number_e, member_e, first_e, second_e] = by(EdgeRule::Eurocode);
     let taken = member::both_taken(member1, member2, plan);
     let share1 = taken.member1.share;
     let share2 = taken.member2.share;
-    println!(rt; "{number} {member} {first} {second} {share1} {share2} ")
+    println!(rt;
+        "{number} {member} {first} {second} {share1} {share2} {number_e} {member_e} {first_e} {second_e} "
+    )
 }
 
 // Each joint in turn, until one has no dowel. The numbers end in as many 0 as a joint has, so that the last one is whole. `while let` takes

@@ -12,7 +12,7 @@ use lib.Seq.{take-append_seam, length-take-le, get_or-take}
 use lib.IntN.{ℤ, pos, negsuc, nat_abs}
 use Rattle.codes.specs.Tables.{is_version}
 use Rattle.joint.specs.declared.Values.{Values}
-use Rattle.joint.specs.Layout.{part_of_kind, position_field, column, positions_in, bytes_of, values_of}
+use Rattle.joint.specs.Layout.{version, part_of_kind, position_field, column, positions_in, bytes_of, values_of}
 use Rattle.joint.specs.Refusal.{refusal2, refusal4, refusal5, refusal6, empty_outlines, no_force, fields_within}
 use Rattle.tables.specs.Tests.{test, first_holding, numbered}
 use Rattle.tables.specs.Table.{Table, Loaded, Right}
@@ -259,12 +259,24 @@ module _ (t : Table) (right : Right t) (s : List ℕ) (h : refusal_number t s �
         read.force,
       )
 
-  pub written_again : (buffer : List ℕ) → length s ≤ length buffer
-      → (writer_number t (fields_of w) (x_of w) (y_of w) (length buffer) ≡ 0)
-      × (reading_of t (record_made t (fields_of w) (x_of w) (y_of w) buffer) ≡ reading_of t s)
-  unfolding reading_of
-  written_again buffer l =
-      let z = nothing t right (fields_of w) (x_of w) (y_of w) (length buffer) (unrefused t right s h).0 handed (rw (lengths.0, ← as_long) l) in
-      let p = (reads_back t right (fields_of w) (x_of w) (y_of w) buffer z).passes in
-      let e = values_are t right (fields_of w) (x_of w) (y_of w) buffer z ∙ values_again in
-      (z, simp (p, h, e))
+  module _ (buffer : List ℕ) (l : length s ≤ length buffer) where
+    abbrev made_again : List ℕ
+    made_again = record_made t (fields_of w) (x_of w) (y_of w) buffer
+
+    taken : writer_number t (fields_of w) (x_of w) (y_of w) (length buffer) ≡ 0
+    taken = nothing t right (fields_of w) (x_of w) (y_of w) (length buffer) (unrefused t right s h).0 handed (rw (lengths.0, ← as_long) l)
+
+    values_kept : values_of made_again ≡ w
+    values_kept = values_are t right (fields_of w) (x_of w) (y_of w) buffer taken ∙ values_again
+
+    pub written_again :
+        (writer_number t (fields_of w) (x_of w) (y_of w) (length buffer) ≡ 0)
+        × (reading_of t (record_made t (fields_of w) (x_of w) (y_of w) buffer) ≡ reading_of t s)
+    unfolding reading_of
+    written_again =
+        let p = (reads_back t right (fields_of w) (x_of w) (y_of w) buffer taken).passes in (taken, simp (p, h, values_kept))
+
+    -- A7: 'a record read and written again keeps its version'
+    pub version_kept : version (record_made t (fields_of w) (x_of w) (y_of w) buffer) ≡ version s
+    unfolding values_of
+    version_kept = ap (λ (v : Values). v.version) values_kept

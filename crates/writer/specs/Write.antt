@@ -16,7 +16,7 @@ use Rattle.joint.specs.Refusal.{value_tests}
 use Rattle.writer.specs.declared.MemberFields.{MemberFields}
 use Rattle.writer.specs.declared.Fields.{Fields}
 
--- ---- what is handed over, as a record's values. Version 1 has no field for gx, gy, plate and marks. A field without a sign takes a number's
+-- ---- what is handed over, as a record's values. Versions 1 and 2 have no field for gx, gy, plate and marks. A field without a sign takes a number's
 -- size; the tests below turn a number away that is below 0 there.
 abbrev pub member_from : MemberFields → Member
 member_from m =

@@ -20,7 +20,7 @@ use tables::Source;
 // Bytes of a record without dowels.
 const RECORD_BYTES: usize = 78;
 
-// A member as it is handed over. Grain 0 runs along x, 1 along y; version 1 has no gx and gy.
+// A member as it is handed over. Grain 0 runs along x, 1 along y; versions 1 and 2 have no gx and gy.
 #[derive(Clone, Copy)]
 pub struct MemberFields {
     pub class: i32,
@@ -34,7 +34,7 @@ pub struct MemberFields {
     pub y1: i32,
 }
 
-// All numbers of a record but those of its dowels; version 1 has no plate.
+// All numbers of a record but those of its dowels; versions 1 and 2 have no plate.
 #[derive(Clone, Copy)]
 pub struct Fields {
     pub version: i32,
@@ -95,8 +95,8 @@ impl From<Refusal> for Unwritten {
 
 // Writes the record of a firm's numbers, in the version that they name, into the buffer's first bytes and reports how many. A table that is
 // turned away refuses the values before any test of their own; then come the tests of a record's values, and then whether the buffer is long
-// enough; on refusal the buffer stays as it is. Version 1 has no marks, and they are not looked at. A list for each of x, y and marks, since C
-// lends them so. Why the hint: `negwishal::write_by` says it.
+// enough; on refusal the buffer stays as it is. Versions 1 and 2 have no marks, and they are not looked at. A list for each of x, y and marks, since
+// C lends them so. Why the hint: `negwishal::write_by` says it.
 #[inline(always)]
 pub fn write_with(
     table: Source,

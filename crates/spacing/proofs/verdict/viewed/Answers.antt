@@ -8,5 +8,5 @@ pub returns : goal.returns
 unfolding member_verdict
 returns c = let k = c.args in
     let p = k.plan in
-    c.member_verdict.ensures
-    ∙ ap (λ (w : View). verdict_in (number_of k.which) w.frame p.diameter w.along w.across p.count) c.view.ensures
+    c.verdict.ensures
+    ∙ ap (λ (w : View). verdict_in k.rule (number_of k.which) w.frame p.diameter w.along w.across p.count) c.view.ensures

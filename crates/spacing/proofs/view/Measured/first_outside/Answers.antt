@@ -10,7 +10,7 @@ use Rattle.spacing.proofs.view.Measured.first_outside.Goals as goal
 
 pub returns : goal.returns
 returns c = let k = c.args in
-    let s = k.sides in
-    let test = outside s.low s.high s.under s.over k.v.now in
+    let s = k.bounds in
+    let test = outside s.least s.greatest k.v.now in
     first_is test _ _ _ _ (omega arith)
     (first_from_Range _ _ _ _ (λ j. test j ≡ true) (λ j. test j ≡ false) c.find.ensures.ran (λ x q e. search rules) (λ x q e. search rules))

@@ -4,7 +4,7 @@ use mathlib.Core.Path.{◌≡◌}
 use Rattle.std.specs.Prelude.{Err}
 use Rattle.spacing.specs.Verdict.{verdict_in}
 use Rattle.spacing.proofs.Faults.{the_first, the_second}
-use Rattle.spacing.proofs.verdict.member_verdict.Goals as goal
+use Rattle.spacing.proofs.view.Measured.verdict.Goals as goal
 
 pub returns-in_err-pair_fault : goal.returns-in_err-pair_fault
 unfolding verdict_in

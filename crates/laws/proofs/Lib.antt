@@ -1,0 +1,4 @@
+pub mod Verdicts
+pub mod Bytes
+pub mod Versions
+pub mod Edges

@@ -1,0 +1,3 @@
+// Laws about two records: no code, and nothing is called. What joins them is each entry's contract, which says which report a record gets
+// (joint's `Reported`).
+#![tactic(auto)]
