@@ -27,6 +27,13 @@ module _ (a b x y : ℕ) (r : List ℕ) where
   dropped (suc zero) h = absurd (omega arith)
   dropped (suc (suc n)) h = refl
 
+  -- the part of a pair whose numbers are the same, past the version
+  same_stretch :
+      (k : ℕ) → pair_offset other k ≡ pair_offset one k → pair_length other k ≡ pair_length one k → 2 ≤ pair_offset one k →
+      part_of_pair other k ≡ part_of_pair one k
+  unfolding part_of_pair
+  same_stretch k p q h = rw (p, q) (ap (take (pair_length one k)) (dropped (pair_offset one k) h))
+
   pub same1 : refusal1 other ≡ refusal1 one
   unfolding refusal1
   same1 = refl
@@ -58,20 +65,16 @@ module _ (a b x y : ℕ) (r : List ℕ) where
 
   module _ (o : Offsets) where
     part1 : part_of_pair other 1 ≡ part_of_pair one 1
-    unfolding part_of_pair
-    part1 = ap (take (pair_length one 1)) (dropped (pair_offset one 1) o.first)
+    part1 = same_stretch 1 refl refl o.first
 
     part2 : part_of_pair other 2 ≡ part_of_pair one 2
-    unfolding part_of_pair
-    part2 = ap (take (pair_length one 2)) (dropped (pair_offset one 2) o.second)
+    part2 = same_stretch 2 refl refl o.second
 
     part3 : part_of_pair other 3 ≡ part_of_pair one 3
-    unfolding part_of_pair
-    part3 = ap (take (pair_length one 3)) (dropped (pair_offset one 3) o.third)
+    part3 = same_stretch 3 refl refl o.third
 
     part4 : part_of_pair other 4 ≡ part_of_pair one 4
-    unfolding part_of_pair
-    part4 = ap (take (pair_length one 4)) (dropped (pair_offset one 4) o.fourth)
+    part4 = same_stretch 4 refl refl o.fourth
 
     picked : (p q s : Bool) → part_of_pair other (cond p 1 (cond q 2 (cond s 3 4))) ≡ part_of_pair one (cond p 1 (cond q 2 (cond s 3 4)))
     picked true q s = part1
