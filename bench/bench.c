@@ -1,10 +1,11 @@
 /* Times the entries of negwishal.h against a floating-point and, with WITH_GMP, an exact version of the same jobs,
  * without and with a table of classes, a firm's own or one that two firms share, and those for whole square roots,
- * holds their answers to one another, and measures the stack.  bench [--builds OTHER OURS].. [FILE..]: the records in
- * the files are compared too, by every table; a file whose name ends in .tab is one table more, own and shared.  OTHER
- * and OURS are shared objects of two builds of the library: judging by the one is timed against judging by the other,
- * and their reports are compared; of several pairs each has the code in another place.  These two judge records of
- * version 1 alone: an older build answers 2 for version 2.
+ * holds their answers to one another, and those on a joint drawn otherwise to those on the joint as first drawn, and
+ * measures the stack.  bench [--builds OTHER OURS].. [FILE..]: the records in the files are compared too, by every
+ * table; a file whose name ends in .tab is one table more, own and shared.  OTHER and OURS are shared objects of two
+ * builds of the library: judging by the one is timed against judging by the other, and their reports are compared; of
+ * several pairs each has the code in another place.  These two judge records of version 1 alone: an older build answers
+ * 2 for version 2.
  *
  * A 'version' is one of these three programs; the version that a record names is its 'record version'. */
 #define _GNU_SOURCE
@@ -61,6 +62,11 @@ static const char *const JOB[JOBS] = {"judge", "write", "read"};
 
 /* A record's values: what negwishal_read hands out and negwishal_write takes. */
 #define VALUES 27
+#define OF_MEMBER 9 /* the numbers of member 2 stand so much further on than those of member 1 */
+#define LOW 7       /* x0 and y0 of member 1 */
+#define HIGH 9
+#define DIAMETER 20
+#define FORCE 25
 #define DOWELS 64
 #define ROOM 600
 struct values {
@@ -1022,6 +1028,184 @@ static int compare_thick(const struct record thick[THICK][THICKNESSES])
     return print_tally(&tally, "joints of other thicknesses judged, read and written again");
 }
 
+/* ---- the same joint drawn otherwise */
+
+/* What is done to a joint's values, in this order.  Moved: up in x and down in y where it is above 0, and the other way
+ * below it. */
+#define DRAWINGS 5
+static const struct drawing {
+    const char *name;
+    int relisted, mirrored[2], moved;
+} DRAWING[DRAWINGS] = {
+    {"relisted", 1, {0, 0}, 0},      {"moved", 0, {0, 0}, 1},         {"mirrored in x", 0, {1, 0}, 0},
+    {"mirrored in y", 0, {0, 1}, 0}, {"all of these", 1, {1, 1}, -1},
+};
+
+/* The numbers along an axis: of the dowels, then low and high of members 1 and 2. */
+static size_t numbers_along(int axis, struct values *v, int32_t *at[DOWELS + 4])
+{
+    size_t n = 0;
+    for (; n < v->answer[1]; n++)
+        at[n] = axis == 0 ? &v->x[n] : &v->y[n];
+    for (int k = 0; k < 4; k++)
+        at[n++] = &v->fields[k / 2 * OF_MEMBER + (k % 2 == 0 ? LOW : HIGH) + axis];
+    return n;
+}
+
+static void exchange(int32_t *a, int32_t *b)
+{
+    const int32_t before = *a;
+    *a = *b;
+    *b = before;
+}
+
+/* By chance, but no dowel keeps its place where there are two or more. */
+static void relist(struct values *v)
+{
+    for (size_t i = v->answer[1] - 1; i > 0; i--) {
+        const size_t k = any_number() % i;
+        exchange(&v->x[i], &v->x[k]);
+        exchange(&v->y[i], &v->y[k]);
+        exchange(&v->marks[i], &v->marks[k]);
+    }
+}
+
+static void mirror(int axis, struct values *v)
+{
+    int32_t *at[DOWELS + 4];
+    const size_t n = numbers_along(axis, v, at);
+    for (size_t i = 0; i < n; i++)
+        *at[i] = -*at[i];
+    exchange(at[n - 4], at[n - 3]);
+    exchange(at[n - 2], at[n - 1]);
+    v->fields[FORCE + axis] = -v->fields[FORCE + axis];
+}
+
+/* Up or down as far as coordinates go. */
+static void move(int axis, int up, struct values *v)
+{
+    int32_t *at[DOWELS + 4], least = 100000, greatest = -100000;
+    const size_t n = numbers_along(axis, v, at);
+    for (size_t i = 0; i < n; i++) {
+        least = *at[i] < least ? *at[i] : least;
+        greatest = *at[i] > greatest ? *at[i] : greatest;
+    }
+    for (size_t i = 0; i < n; i++)
+        *at[i] += up ? 100000 - greatest : -100000 - least;
+}
+
+/* The record of these values, as the proved version writes it, for the same calls as r. */
+static void write_like(struct record *to, const struct record *r, const struct values *v)
+{
+    uint64_t answer[2];
+    write_by(0, r->table, v, v->answer[1], v->answer[1], ENOUGH, to->bytes, ROOM, answer);
+    to->name = r->name;
+    to->table = r->table;
+    to->length = answer[1];
+}
+
+/* The joint of these values, which are r's, drawn otherwise. */
+static void draw(struct record *drawn, const struct record *r, const struct values *values, const struct drawing *how)
+{
+    struct values v = *values;
+    if (how->relisted)
+        relist(&v);
+    for (int axis = 0; axis < 2; axis++) {
+        if (how->mirrored[axis])
+            mirror(axis, &v);
+        if (how->moved != 0)
+            move(axis, (how->moved > 0) == (axis == 0), &v);
+    }
+    write_like(drawn, r, &v);
+}
+
+/* Whether two reports are the same but for the dowels that they name. */
+static int same_but_dowels(const uint64_t *a, const uint64_t *b)
+{
+    return memcmp(a, b, 3 * sizeof a[0]) == 0 && memcmp(a + 5, b + 5, 3 * sizeof a[0]) == 0;
+}
+
+/* A joint that can be read, drawn otherwise in each way: whether the versions agree, and whether each says what it says
+ * of the joint as first drawn. */
+static void compare_drawings(const struct record *r, struct tally tally[2])
+{
+    static struct record drawn;
+    uint64_t first[VERSIONS][8], reports[VERSIONS][8];
+    struct values values;
+    read_values(0, r, &values);
+    if (values.answer[0] != 0)
+        return;
+    const int first_good = judged_alike(r, first);
+    for (int k = 0; k < DRAWINGS; k++) {
+        draw(&drawn, r, &values, &DRAWING[k]);
+        const int good = judged_alike(&drawn, reports), before = tally[0].bad + tally[1].bad;
+        count(&tally[0], reports[0][1], !good);
+        for (int v = 0; v < VERSIONS; v++)
+            count(&tally[1], reports[v][1], !same_but_dowels(first[v], reports[v]));
+        if (before < 5 && tally[0].bad + tally[1].bad != before) {
+            print_reports(r->name, first, first_good);
+            print_reports(DRAWING[k].name, reports, 0);
+        }
+    }
+}
+
+/* Another diameter, one limit of an outline near the outermost dowel, and the force turned by quarters, or any other:
+ * half of these joints are refused by 10 to 12. */
+static void vary(struct values *v)
+{
+    const unsigned quarters = any_number() % 8; /* 4 and more: any force */
+    int32_t *at[DOWELS + 4];
+    const size_t n = numbers_along(any_number() % 2, v, at), limit = any_number() % 4;
+    const int high = limit % 2;
+    int32_t outermost = *at[0];
+    for (size_t i = 1; i < n - 4; i++)
+        if (high ? *at[i] > outermost : *at[i] < outermost)
+            outermost = *at[i];
+    const int32_t near = 200 + (int32_t)(any_number() % 1000);
+    *at[n - 4 + limit] = high ? outermost + near : outermost - near;
+    v->fields[DIAMETER] = 6 + (int32_t)(any_number() % 10);
+    for (unsigned k = 0; k < quarters && quarters < 4; k++) {
+        exchange(&v->fields[FORCE], &v->fields[FORCE + 1]);
+        v->fields[FORCE] = -v->fields[FORCE];
+    }
+    for (int axis = 0; axis < 2 && quarters >= 4; axis++)
+        v->fields[FORCE + axis] = (int32_t)(any_number() % 2000001) - 1000000;
+}
+
+/* So of a joint as it is, and of others made from it. */
+static void compare_varied(const struct record *r, struct tally tally[2])
+{
+    static struct record varied;
+    struct values first, v;
+    compare_drawings(r, tally);
+    read_values(0, r, &first);
+    if (first.answer[0] != 0)
+        return;
+    for (int k = 0; k < 100; k++) {
+        v = first;
+        vary(&v);
+        write_like(&varied, r, &v);
+        compare_drawings(&varied, tally);
+    }
+}
+
+/* The joints that are timed, and the records, drawn otherwise; those at edges are in the tally already. */
+static int compare_drawn(const struct record *r, int records, const struct record *tabled,
+                         const struct record *versioned, const struct record thick[THICK][THICKNESSES],
+                         struct tally tally[2])
+{
+    for (int i = 0; i < records; i++)
+        compare_varied(&r[i], tally);
+    for (int i = 0; i < TABLED; i++)
+        compare_varied(&tabled[i], tally);
+    for (int i = 0; i < VERSIONED; i++)
+        compare_varied(&versioned[i], tally);
+    for (int i = 0; i < THICK * THICKNESSES; i++)
+        compare_drawings(&thick[i / THICKNESSES][i % THICKNESSES], tally);
+    return print_tally(&tally[0], "drawings judged, read and written again")
+         + print_tally(&tally[1], "reports on drawings held to the one on the joint as first drawn");
+}
+
 /* ---- versions of the record, and edges */
 
 /* Joint B in each of the 65,536 versions; in known ones and others that have these bytes or neighbour them also with
@@ -1089,8 +1273,9 @@ static void write_edges(struct record *r, const struct edges *e)
 }
 
 /* One edge of a member in record versions 1 and 2: the first dowel next to it is refused where the rule of the version
- * asks for more, and where both versions accept they judge alike to the last number. */
-static void compare_edge(const struct edges *e, int k, int side, struct tally tally[2])
+ * asks for more, and where both versions accept they judge alike to the last number.  Each 33rd joint is drawn
+ * otherwise too. */
+static void compare_edge(const struct edges *e, int k, int side, struct tally tally[2], struct tally drawn[2])
 {
     static struct record r;
     uint64_t reports[2][VERSIONS][8];
@@ -1105,6 +1290,8 @@ static void compare_edge(const struct edges *e, int k, int side, struct tally ta
         }
         set_record_version(&r, (unsigned)n + 1);
         good[n] = judged_alike(&r, reports[n]) && memcmp(reports[n][0] + 1, place, sizeof place) == 0;
+        if ((2 * tally[0].done + n) % 33 == 0)
+            compare_drawings(&r, drawn);
     }
     if (reports[0][0][1] == 0 && reports[1][0][1] == 0)
         good[1] = good[1] && memcmp(reports[0], reports[1], sizeof reports[0]) == 0;
@@ -1121,7 +1308,8 @@ static void compare_edge(const struct edges *e, int k, int side, struct tally ta
 
 /* Each edge of each member at the limit of record version 2, a tenth beside it and at other places, with all others at
  * their limits. */
-static void compare_edges_of(unsigned d, const unsigned grain[2], const int32_t force[2], struct tally tally[2])
+static void compare_edges_of(unsigned d, const unsigned grain[2], const int32_t force[2], struct tally tally[2],
+                             struct tally drawn[2])
 {
     const int32_t three = 30 * (int32_t)d, four = 40 * (int32_t)d;
     const int64_t x = force[0], y = force[1];
@@ -1138,7 +1326,7 @@ static void compare_edges_of(unsigned d, const unsigned grain[2], const int32_t 
             const int32_t at[] = {least, least - 1, least + 1, three, three - 1, four, four - 1, -1};
             for (size_t n = 0; n < sizeof at / sizeof at[0]; n++) {
                 e.at[k][side] = at[n];
-                compare_edge(&e, k, side, tally);
+                compare_edge(&e, k, side, tally, drawn);
             }
             e.at[k][side] = least;
         }
@@ -1152,7 +1340,7 @@ static int32_t any_component(void)
 }
 
 /* So for diameters, grains, and forces every way; then for some of each by chance. */
-static int compare_edges(void)
+static int compare_edges(struct tally drawn[2])
 {
     static const unsigned diameters[] = {6, 8, 11, 12, 13, 21, 22, 26, 30};
     static const int32_t forces[][2] = {
@@ -1172,12 +1360,12 @@ static int compare_edges(void)
                 const unsigned grain[2] = {turn & 1, turn >> 1 & 1};
                 const int32_t force[2] = {turn & 4 ? -forces[f][0] : forces[f][0],
                                           turn & 8 ? -forces[f][1] : forces[f][1]};
-                compare_edges_of(diameters[i], grain, force, tally);
+                compare_edges_of(diameters[i], grain, force, tally, drawn);
             }
     for (int k = 0; k < 1500; k++) {
         const unsigned d = 6 + any_number() % 25, turn = any_number() % 4;
         const int32_t x = any_component(), y = any_component();
-        compare_edges_of(d, (const unsigned[2]){turn & 1, turn >> 1}, (const int32_t[2]){x, y}, tally);
+        compare_edges_of(d, (const unsigned[2]){turn & 1, turn >> 1}, (const int32_t[2]){x, y}, tally, drawn);
     }
     return print_tally(&tally[0], "records of version 1 at edges judged, read and written again")
          + print_tally(&tally[1], "records of version 2 at edges judged, read and written again");
@@ -1350,18 +1538,19 @@ static void print_groups(enum job job, const char *what, const struct record *r,
     }
 }
 
-/* Times what each version does in so many rows, and prints it. */
-static void time_rows(const char *what, int width, int decimals, struct timed (*t)[VERSIONS], int rows)
+/* Times what each version does in so many rows, and prints it; where set is not NULL, it says that each row is set
+ * against the first. */
+static void time_rows(const char *what, int width, int decimals, struct timed (*t)[VERSIONS], int rows, const char *set)
 {
     time_in_turn(t[0], rows * VERSIONS);
     print_head(what, width);
-    printf("\n");
+    printf(set ? "  %s, proved\n" : "\n", set);
     for (int k = 0; k < rows; k++) {
         double ns[VERSIONS];
         for (int v = 0; v < VERSIONS; v++)
             ns[v] = median(&t[k][v]);
         print_row(t[k][0].name, width, decimals, ns);
-        printf("\n");
+        printf(set ? "  %.4f\n" : "\n", ns[0] / median(&t[0][0]));
     }
 }
 
@@ -1372,7 +1561,25 @@ static void time_thick(const struct record thick[THICK][THICKNESSES])
         for (int v = 0; v < VERSIONS; v++)
             t[k][v] = (struct timed){.name = thick[k][0].name, .rounds = do_job, .many = THICKNESSES,
                                      .records = thick[k], .job = JUDGE, .version = v};
-    time_rows(JOB[JUDGE], WIDE, 0, t, THICK);
+    time_rows(JOB[JUDGE], WIDE, 0, t, THICK, NULL);
+}
+
+/* A joint as first drawn, then otherwise in the first so many ways. */
+static void time_drawings(const struct record *r, int drawings)
+{
+    static struct record drawn[1 + DRAWINGS];
+    static struct timed t[1 + DRAWINGS][VERSIONS];
+    for (int k = 0; k <= drawings; k++) {
+        drawn[k] = *r;
+        if (k > 0) {
+            draw(&drawn[k], r, &r->values, &DRAWING[k - 1]);
+            drawn[k].name = DRAWING[k - 1].name;
+        }
+        for (int v = 0; v < VERSIONS; v++)
+            t[k][v] = (struct timed){.name = drawn[k].name, .rounds = do_job, .many = 1, .records = &drawn[k],
+                                     .job = JUDGE, .version = v};
+    }
+    time_rows(JOB[JUDGE], NARROW, 0, t, 1 + drawings, "drawn/first");
 }
 
 /* Both entries for roots, each with many numbers of so many bits. */
@@ -1399,7 +1606,7 @@ static void time_roots(void)
                                      .numbers = numbers[k],
                                      .root = k == ROWS - 1 ? VERSION[v].root_bracket : VERSION[v].whole_root};
     }
-    time_rows("root", NARROW, 1, t, ROWS);
+    time_rows("root", NARROW, 1, t, ROWS, NULL);
 }
 
 /* ---- two builds of the library */
@@ -1625,7 +1832,7 @@ int main(int argc, char **argv)
     static struct record thick[THICK][THICKNESSES];
     static double ns[TIMED][JOBS][VERSIONS], ns_by[TABLED][JOBS][VERSIONS], ns_in[VERSIONED][JOBS][VERSIONS];
     struct record *const joints = records;
-    struct tally written = {0, 0, 0};
+    struct tally written = {0, 0, 0}, drawn[2] = {{0, 0, 0}, {0, 0, 0}};
     int bad = 0, missed = 0, many_tables = TABLES;
     size_t deepest = 0;
     char *builds[PLACES][BUILDS];
@@ -1654,7 +1861,7 @@ int main(int argc, char **argv)
     compare_writers(&joints[0], &printed, &written);
     bad += print_tally(&written, "sets of values written by each version");
     bad += compare_record_versions(&joints[0]);
-    bad += compare_edges();
+    bad += compare_edges(drawn);
     bad += compare_thick(thick);
     bad += compare_roots();
 
@@ -1669,6 +1876,8 @@ int main(int argc, char **argv)
         read_values(0, &tabled[k], &tabled[k].values);
     for (int k = 0; k < VERSIONED; k++)
         read_values(0, &versioned[k], &versioned[k].values);
+    printf("\nAnswers for joints drawn otherwise: relisted, moved, mirrored in x, in y, and all of these together\n");
+    bad += compare_drawn(records, many, tabled, versioned, thick, drawn);
 
     printf("\nTime: ns per call, median of %d batches of about %.0f ms, the versions and jobs taking turns\n", BATCHES,
            BATCH_NS / 1e6);
@@ -1687,6 +1896,10 @@ int main(int argc, char **argv)
     time_records(versioned, VERSIONED, ns_in);
     for (int j = 0; j < JOBS; j++)
         print_groups(j, "version 2/1", versioned, VERSIONED, 2, ns_in);
+
+    printf("\nTime of joint B drawn otherwise, the drawings taking turns too, and of the slowest joint relisted\n");
+    time_drawings(&joints[0], DRAWINGS);
+    time_drawings(&joints[3], 1);
 
     printf("\nTime of one joint with 100 thicknesses in turn, ns per joint; of whole roots, ns per call\n");
     time_thick(thick);

@@ -75,7 +75,11 @@ enum {
 
 /* Judges the record_len bytes at record and writes a report into the first NEGWISHAL_FIELDS of the report_len
  * numbers at report.  Numbers past these are left as they are; a slice of fewer is left as it is whole, and
- * NEGWISHAL_SHORT_REPORT comes back.  A damaged record is a refusal. */
+ * NEGWISHAL_SHORT_REPORT comes back.  A damaged record is a refusal.
+ *
+ * A joint drawn otherwise gets the same VERDICT, NUMBER, MEMBER, USE, CAPACITY and SHARE by the same table, where both records
+ * pass 1 to 9: dowels listed in another order; one offset added to all x, one to all y; or every x and fx negated, or every y
+ * and fy, the two limits of each outline exchanged.  FIRST and SECOND may differ. */
 uint32_t negwishal_judge(const uint8_t *record, size_t record_len, uint64_t *report, size_t report_len);
 
 /* The values of a record but those of its dowels, by their place in fields.  The order is fixed for good: it has a place

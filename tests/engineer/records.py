@@ -102,6 +102,14 @@ def square(step):
     return [(0, 0), (step, 0), (0, step), (step, step)]
 
 
+def drawn_b(dowels, outline_1, outline_2, force=(20000, 0)):
+    """Joint B with other places and limits."""
+    v = joint_b(dowels=dowels, force=force)
+    for member, outline in zip(v["members"], (outline_1, outline_2)):
+        member["outline"] = list(outline)
+    return v
+
+
 def roomy(dowels, grains=(0, 0), **change):
     """Joint B with other dowels, both members 18 m long and wide."""
     v = joint_b(dowels=list(dowels), **change)
@@ -137,15 +145,16 @@ def own_class():
 def samples():
     """'Joints to try' with the line or bounds printed there; a joint of softwood and hardwood, one whose dowels stand a
     hair out of line, and a beam in which an edge is loaded, with bounds from the printed formulas in decimals; a class that is not
-    printed: (name, record, line or bounds).
+    printed; two of these joints drawn otherwise: (name, record, line or bounds).
     Bounds: (verdict, U range or None, C range or None, E range or None)."""
+    as_b = ("fits", (7431, 7469), (7440, 7441), (7346, 7347))
     hung = ("fits", (6268, 6301), (6614, 6615), (7346, 7347))
-    b = write(joint_b())
+    b, backwards = write(joint_b()), joint_b()["dowels"][::-1]
     pair = joint_b(force=(3000, 4000), dowels=[(0, 0), (504, 0)])
     near = joint_b(force=(3000, 4000), dowels=[(0, 0), (503, 0)])
     exchanged = b[:4] + b[8:12] + b[4:8] + b[12:]
     return [
-        ("joint-b", b, ("fits", (7431, 7469), (7440, 7441), (7346, 7347))),
+        ("joint-b", b, as_b),
         ("force-26700", write(joint_b(force=(26700, 0))), ("fits", None, None, None)),
         ("force-27000", write(joint_b(force=(27000, 0))), ("overloaded", None, None, None)),
         ("dowels-599", write(joint_b(dowels=[(0, 0), (599, 0), (0, 360), (599, 360)])),
@@ -168,11 +177,19 @@ def samples():
          ("overloaded", (10669, 10724), (7440, 7441), (6395, 6396))),
         ("own-class", write(own_class()), "refused 7 0 0 0\n"),
         # 02, A7.  Joint B: no edge is loaded, the line is that of joint-b
-        ("eurocode-b", write(joint_b(version=2)), ("fits", (7431, 7469), (7440, 7441), (7346, 7347))),
+        ("eurocode-b", write(joint_b(version=2)), as_b),
         # the hangers pull square at the beam's lower edge: it needs (2 + 2) 12 = 48 mm and has 36, what version 1 asks of every edge
         ("loaded-edge", write(hung_beam(2)), "refused 12 2 1 0\n"),
         ("loaded-edge-v1", write(hung_beam(1)), hung),
         ("loaded-edge-480", write(hung_beam(2, 480)), hung),
+        # 02, A8: what examples/redraw.py makes of two of these
+        ("joint-b-mirrored", write(drawn_b([(0, 0), (-600, 0), (0, 360), (-600, 360)], (-20000, -360, 840, 720), (
+            -1440, -360, 20000, 720), (-20000, 0))), as_b),
+        ("joint-b-moved", write(drawn_b([(80000, -50000), (80600, -50000), (80000, -49640), (80600, -49640)], (
+            79160, -50360, 100000, -49280), (60000, -50360, 81440, -49280))), as_b),
+        ("joint-b-reversed", write(joint_b(dowels=backwards)), as_b),
+        ("edge-719-reversed", write(drawn_b(backwards, (-840, -360, 20000, 719), (-20000, -360, 1440, 720))),
+         "refused 12 1 1 0\n"),
     ]
 
 

@@ -5,15 +5,17 @@
   run.py --library path.so [--entry name]        a library through its C entries
   run.py --wrong [--count N]                     the wrong programs: each must be reported
 A library is handed N records to judge, to read and to write again, and N sets of values to write and to read; then
-N of each with tables of firms, and N of each with tables that two firms share; and N numbers, to find the starting bracket
-and the whole root of each.
+N of each with tables of firms, and N of each with tables that two firms share; N pairs of records of one joint drawn otherwise;
+and N numbers, to find the starting bracket and the whole root of each.  A program is handed the N records and the pairs.
   run.py --show K [--seed S] [--tables|--firms]  record number K, in hex, and what 01 says of it; or that with its table
+  run.py --show K [--seed S] --drawn             pair number K
 Exit status 0 if all is right.
 """
 import argparse
 from collections import Counter
 import time
 
+import drawn
 import engineer
 import firms
 import judge
@@ -21,15 +23,16 @@ import records
 import roots
 import tables
 import values
-from written import check_alike, check_line, check_load, check_read, check_roots, check_versions, check_write
-from wrong import WRONG, WRONG_FIRMS, WRONG_ROOTS, WRONG_TABLES, WRONG_WRITERS
+from written import check_alike, check_line, check_load, check_read, check_roots, check_versions, check_write, loaded_of
+from wrong import WITHIN, WRONG, WRONG_DRAWN, WRONG_FIRMS, WRONG_ROOTS, WRONG_TABLES, WRONG_WRITERS
 
 
-def outcome(line):
+def outcome(line, most=2):
+    """most: words of a refusal."""
     words = line.split()
     if not words:
         return "no line"
-    return " ".join(words[:2]) if words[0] == "refused" else words[0]
+    return " ".join(words[:most]) if words[0] == "refused" else words[0]
 
 
 def summary(what, seed, violations, began, outcomes):
@@ -45,13 +48,6 @@ def summary(what, seed, violations, began, outcomes):
 def answered(code, number):
     """The outcome of an entry that writes or reads values, or finds roots."""
     return "slice short" if code else "refused %d" % number if number else "done"
-
-
-def loaded_of(table):
-    """What the engineer has of a table, the printed one where none is handed in."""
-    if isinstance(table, judge.Shared):
-        return engineer.load_for(*table)
-    return engineer.PRINTED if table is None else engineer.load(table)
 
 
 def first_fault(*checks):
@@ -187,6 +183,43 @@ def run_roots(program, seed, count, most, skip=0):
     return violations
 
 
+FEW = 16    # dowels: so many, and the engineer works out the figures of the second of a pair too
+
+
+def references(program, pair):
+    """The engineer's of both records of a pair."""
+    loaded = loaded_of(pair.table)
+    return [engineer.Reference(data, program.program, loaded) for data in (pair.first, pair.second)]
+
+
+def judged_both(program, pair):
+    return [program.judge(data, pair.table) if program.tables else program.judge(data) for data in (pair.first, pair.second)]
+
+
+def run_drawn(program, seed, count, most, skip=0):
+    """Pairs of records of one joint through the judge: each line by the engineer, and what must be the same in both."""
+    outcomes, kinds, by, violations = Counter(), Counter(), Counter(), 0
+    began = time.time()
+    for n, pair in enumerate(drawn.stream(seed, count, program.tables)):
+        if n < skip:
+            continue
+        one, two = judged_both(program, pair)
+        first, second = references(program, pair)
+        held = second.joint is None or len(second.joint.dowels) <= FEW
+        outcomes[outcome(one, 3)] += 1          # the member too
+        kinds[pair.label.split(",")[0]] += 1
+        by["the printed table" if pair.table is None else "a firm's own" if isinstance(pair.table, bytes) else "a shared one"] += 1
+        found = first_fault(lambda: drawn.check(pair, one, two), lambda: first.check(one), lambda: not held or second.check(two))
+        if found is not True:
+            violations += 1
+            if violations <= most:
+                print("pair %d (%s): %s\n  %s\n  %s%s" % (n, pair.label, found, pair.first.hex(), pair.second.hex(), with_table(pair.table)))
+    summary("pairs drawn otherwise", seed, violations, began, outcomes)
+    print("  by " + counts(by))
+    print("  kinds: " + counts(kinds))
+    return violations
+
+
 def run_wrong_writers(seed, count, only):
     """Each wrong writer or reader until its first violation: values first, then records."""
     handed = [(n, label, h, engineer.after_write(*h)) for n, (label, h) in enumerate(values.stream(seed, count))]
@@ -271,6 +304,35 @@ def run_wrong_tables(seed, count, only, source=tables, programs=WRONG_TABLES):
     return missed
 
 
+HELD = 400  # of a program within the brackets so many pairs at least are held to the engineer
+
+
+def run_wrong_drawn(seed, count, only):
+    """Each wrong program until it answers two drawings of one joint otherwise, which alone is looked at; then those within the
+    brackets by the engineer, who may report none of them."""
+    kept = [(n, pair, references(judge.StandIn, pair)) for n, pair in enumerate(drawn.stream(seed, count))]
+    missed = tried = within = 0
+    print("%-20s %-84s %8s  %s" % ("group", "wrong program for one joint drawn otherwise", "pair", "why"))
+    for group, name, cls in WRONG_DRAWN:
+        if only and only not in name:
+            continue
+        tried += 1
+        program = judge.StandIn(cls)
+        found = first_report((group, n, pair.label, drawn.check(pair, *judged_both(program, pair))) for n, pair, _ in kept)
+        outside = None
+        if found and group == WITHIN:
+            within += 1
+            outside = first_report((group, n, pair.label, checked) for n, pair, both in kept[:max(HELD, found[1] + 1)]
+                                   for checked in map(engineer.Reference.check, both, judged_both(program, pair)))
+        missed += found is None or outside is not None
+        print("%-20s %-84s %8s" % (group, name, "MISSED") if found is None
+              else "%-20s %-84s %8d  (%s) %s" % (group, name, *found[1:]) if outside is None
+              else "%-20s %-84s  OUTSIDE %d  (%s) %s" % (group, name, *outside[1:]))
+    print("%d wrong programs for one joint drawn otherwise, %d of them within the brackets, %d missed, %d pairs, seed %d"
+          % (tried, within, missed, count, seed))
+    return missed
+
+
 def run_wrong_roots(seed, count, only):
     """Each wrong program until its first violation."""
     kept = [(n, label, number, roots.lent(seed, n)) for n, (label, number) in enumerate(roots.stream(seed, count))]
@@ -311,10 +373,11 @@ def written_alike(program, handed, expected, table, loaded, others):
 
 
 def run_all(program, a):
-    """The violations of judging and, where the program has them, of writing and reading, of all with tables, of all for
-    firms and of roots."""
+    """The violations of judging, one joint drawn otherwise too, and, where the program has them, of writing and reading, of all
+    with tables, of all for firms and of roots."""
     count = a.count or 20000
     violations = run(program, a.seed, count, a.most, a.skip)
+    violations += run_drawn(program, a.seed, count, a.most, a.skip)
     if program.writes:
         violations += run_read(program, a.seed, count, a.most, a.skip)
         violations += run_written(program, a.seed, count, a.most, a.skip)
@@ -354,6 +417,15 @@ def show_table(seed, number, source):
             print("library: " + engineer.Reference(data, False, loaded).describe())
 
 
+def show_drawn(seed, number):
+    for n, pair in enumerate(drawn.stream(seed, number + 1)):
+        if n == number:
+            print(pair.label + with_table(pair.table))
+            for data, reference in zip((pair.first, pair.second), references(judge.Library, pair)):
+                print(data.hex())
+                print("library: " + reference.describe())
+
+
 def show(seed, number):
     for n, (label, data) in enumerate(records.stream(seed, number + 1)):
         if n == number:
@@ -376,11 +448,14 @@ def main():
     p.add_argument("--show", type=int)
     p.add_argument("--tables", action="store_true", help="with --show: a record with a table")
     p.add_argument("--firms", action="store_true", help="with --show: a record with a table that two firms share")
+    p.add_argument("--drawn", action="store_true", help="with --show: a pair of records of one joint drawn otherwise")
     p.add_argument("--most", type=int, default=50, help="violations printed in full")
     a = p.parse_args()
     if a.show is not None:
         if a.tables or a.firms:
             show_table(a.seed, a.show, firms if a.firms else tables)
+        elif a.drawn:
+            show_drawn(a.seed, a.show)
         else:
             show(a.seed, a.show)
         return 0
@@ -389,6 +464,7 @@ def main():
         missed += run_wrong_writers(a.seed, a.count or 8000, a.only)
         missed += run_wrong_tables(a.seed, a.count or 5000, a.only)
         missed += run_wrong_tables(a.seed, a.count or 11000, a.only, firms, WRONG_FIRMS)
+        missed += run_wrong_drawn(a.seed, a.count or 4000, a.only)
         missed += run_wrong_roots(a.seed, a.count or 5000, a.only)
         return 1 if missed else 0
     if a.library:

@@ -17,12 +17,16 @@ HEAD = """\
 # included (U, C and E in this order); a verdict follows from U: fits up to 10,000.
 """
 
-# above the line of eurocode-b
+# above the line of the record
 NOTES = {"eurocode-b": """\
 # Records of version 2: edges by EN 1995-1-1, Table 8.5.  The force in joint B runs along the grain, no edge is loaded, and its
 # line is the same.  In loaded-edge two hangers pull down at the beam between them, with 12 mm dowels: the beam's lower edge is
 # loaded and needs (2 + 2 sin 90) 12 = 48 mm, but is 36 mm below dowel 1.  In version 1, loaded-edge-v1, these 36 mm are enough;
 # in version 2 a beam that is 12 mm higher, loaded-edge-480.
+""", "joint-b-mirrored": """\
+# The same joint drawn otherwise, by redraw.py: joint-b with --mirror x, with --move 80000 -50000, which is as far to the right as a
+# record goes, and with --reverse.  Each gets the figures of joint-b.  edge-719-reversed is member-1-edge-719 with --reverse: number and
+# member are the same, and the dowel that is named is another, for the first one too near is now dowel 1.
 """}
 
 OWN_HEAD = """\

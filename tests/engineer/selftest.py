@@ -1,6 +1,7 @@
 """Tests of the engineer itself: against the figures that document 01 prints, a joint of D30, joints out of line and
 graded ones and loaded edges worked out by the formulas, and against their sentences taken literally with fractions, A3's with all
-sets of dowels; of its writer, its tables, its firms and its roots against 02's sentences on A2, A4, A6 and A5.
+sets of dowels; of its writer, its tables, its firms and its roots against 02's sentences on A2, A4, A6 and A5; and of the pairs
+of records, and its answers to them, against A8's.
 
   selftest.py [--count N] [--seed S]     with N records made by chance
 """
@@ -11,6 +12,7 @@ from math import isqrt
 from random import Random
 import struct
 
+import drawn
 import engineer
 import firms
 import judge
@@ -401,7 +403,7 @@ def sharing(seed, count):
             code: ((engineer.SOFTWOOD, engineer.HARDWOOD)[kind], density) for code, kind, density in entries}, name
         assert stand_in.load(table) == number, name
         for what, other in firms.others(seed, n, table, loaded):
-            assert loaded_of(other) == loaded and load_fault(other)[0] == number, (name, what)
+            assert written.loaded_of(other) == loaded and load_fault(other)[0] == number, (name, what)
         if number in (0, 15):
             # the two stretches and nothing else behind ten bytes, each by itself
             one, two = (table.bytes[slice(*firms.named(table.bytes, firm))] for firm in (1, 2))
@@ -524,11 +526,7 @@ def tabled_items(seed, count):
 def with_loaded(some):
     for label, table, data in some:
         number, entries = load_fault(table)
-        yield label, data, number, loaded_of(table), {} if number else woods_of(entries)
-
-
-def loaded_of(table):
-    return engineer.load_for(*table) if isinstance(table, judge.Shared) else engineer.load(table)
+        yield label, data, number, written.loaded_of(table), {} if number else woods_of(entries)
 
 
 def shared_records(seed, count):
@@ -667,7 +665,7 @@ def written_all(items):
     stand_in, written_ones = judge.StandIn(), 0
     for n, (label, table, h) in enumerate(items):
         number, entries = (0, None) if table is None else load_fault(table)
-        loaded = engineer.PRINTED if table is None else loaded_of(table)
+        loaded = written.loaded_of(table)
         code, buffer, answer = engineer.after_write(*h, loaded)
         if code:
             assert (len(h.fields) < 27 or len(h.answer) < 2) and (buffer, answer) == (h.buffer, h.answer), (n, label)
@@ -729,6 +727,133 @@ def literal_bracket(n):
     return 2 ** k, 2 * 2 ** k, k
 
 
+def is_drawn(one, two, kind, axis):
+    """02, A8, of two Joints: 'listing the dowels in another order', 'adding one offset to all x and one to all y', or 'mirroring
+    coordinates and force in x or in y', where 'a mirrored pair of outline limits is exchanged, the lower first'; or equal values."""
+    def others(j):
+        return j.version, j.p, j.cls, j.grain, j.t, j.d, j.steel, j.service, j.duration, len(j.dowels)
+
+    def line(j, k):
+        """All x or all y: of the dowels, the low limits and the high ones."""
+        return [xy[k] for xy in j.dowels], [o[k] for o in j.outline], [o[k + 2] for o in j.outline]
+
+    def negated(numbers):
+        return [-z for z in numbers]
+    if others(one) != others(two):
+        return False
+    if kind == "mirrored":
+        (places, low, high), (new, new_low, new_high) = line(one, axis), line(two, axis)
+        force, new_force = (one.fx, one.fy), (two.fx, two.fy)
+        return ((new, new_low, new_high) == (negated(places), negated(high), negated(low))
+                and new_force[axis] == -force[axis] and new_force[1 - axis] == force[1 - axis]
+                and line(one, 1 - axis) == line(two, 1 - axis))
+    if (one.fx, one.fy) != (two.fx, two.fy):
+        return False
+    if kind == "moved":
+        return all(len({b - a for old, new in zip(line(one, k), line(two, k)) for a, b in zip(old, new)}) == 1 for k in (0, 1))
+    if one.outline != two.outline:
+        return False
+    return sorted(one.dowels) == sorted(two.dowels) if kind == "listed" else one.dowels == two.dowels
+
+
+def told(data, loaded, whole=False):
+    """What the engineer says that is the same: the number and the member, or the ranges and the rows of each member; the place
+    too where it is the same."""
+    reference = engineer.Reference(data, False, loaded)
+    if reference.refusal is not None:
+        return reference.refusal if whole else reference.refusal[:2]
+    return reference.values().ranges(), reference.values().rows
+
+
+def redrawing(seed, count):
+    """Request A8: each change by the literal text and undone; both drawings by the engineer and by model.py."""
+    stand_in, n = judge.StandIn(), -1
+    r = Random(seed)
+    for n, pair in enumerate(drawn.stream(seed, count)):
+        loaded = written.loaded_of(pair.table)
+        drawing = drawn.drawing_of(pair.first)
+        assert drawn.write(drawing) == pair.first and drawn.write(drawn.drawing_of(pair.second)) == pair.second, (n, pair.label)
+        for change in [[change] for change in (drawn.Mirrored(0), drawn.Mirrored(1))] + [drawn.some_changes(r, drawing)]:
+            before = [drawing, *drawn.steps_of(drawing, change)]
+            for step, old, new in zip(change, before, before[1:]):
+                joints = [engineer.read(drawn.write(one), loaded) for one in (old, new)]
+                assert all(isinstance(j, engineer.Joint) for j in joints), (n, pair.label, step)
+                assert is_drawn(*joints, step.kind, getattr(step, "axis", None)), (n, pair.label, step)
+                assert step.back(old).of(new) == old, (n, pair.label, step)
+        one, two = (told(data, loaded, pair.whole) for data in (pair.first, pair.second))
+        assert one == two, (n, pair.label, one, two)
+        assert drawn.check(pair, stand_in.judge(pair.first, pair.table), stand_in.judge(pair.second, pair.table)) is True, n
+    return n + 1
+
+
+def halfway(change, *names):
+    """A change of values of which these stay as they were."""
+    def of(v):
+        w = change.of(drawn.Drawing(v, None)).values
+        for name in names:
+            if name in (0, 1):
+                w["members"][name]["outline"] = v["members"][name]["outline"]
+            else:
+                w[name] = v[name]
+        return w
+    return of
+
+
+def limits_changed(change):
+    """The dowels and the force mirrored in x, and of each outline x0 and x1 changed: change(x0, x1)."""
+    def of(v):
+        w = halfway(drawn.Mirrored(0), 0, 1)(v)
+        for m in w["members"]:
+            x0, y0, x1, y1 = m["outline"]
+            low, high = change(x0, x1)
+            m["outline"] = [low, y0, high, y1]
+        return w
+    return of
+
+
+def last_twice(v):
+    """Two dowels mapped to one."""
+    return dict(v, dowels=v["dowels"][-1:] + v["dowels"][1:])
+
+
+# what is no drawing of the same joint
+NOT_DRAWN = (
+    ("force not mirrored", halfway(drawn.Mirrored(0), "force")), ("force not mirrored in y", halfway(drawn.Mirrored(1), "force")),
+    ("limits negated, not exchanged", limits_changed(lambda x0, x1: (-x0, -x1))),
+    ("limits exchanged, not negated", limits_changed(lambda x0, x1: (x1, x0))),
+    ("limits neither negated nor exchanged", limits_changed(lambda x0, x1: (x0, x1))),
+    ("outline of member 1 not mirrored", halfway(drawn.Mirrored(1), 0)),
+    ("outline of member 2 not mirrored", halfway(drawn.Mirrored(1), 1)),
+    ("dowels not mirrored", halfway(drawn.Mirrored(0), "dowels")),
+    ("force alone mirrored", halfway(drawn.Mirrored(0), "dowels", 0, 1)),
+    ("outline of member 1 not moved", halfway(drawn.Moved(100, 10), 0)),
+    ("outline of member 2 not moved", halfway(drawn.Moved(-100, 10), 1)),
+    ("dowels not moved", halfway(drawn.Moved(1, 1), "dowels")),
+    ("two dowels mapped to one", last_twice),
+    ("a dowel lost", lambda v: dict(v, dowels=v["dowels"][1:] or v["dowels"])),
+    ("x and y exchanged in the list", lambda v: dict(v, dowels=[(y, x) for x, y in v["dowels"]])),
+    ("the other version", lambda v: dict(v, version=3 - v["version"])),
+)
+
+
+def not_drawn(seed, count):
+    """Each change above is seen: the engineer answers some joint otherwise, which may be refused by 7 or 8.  Where the literal text
+    takes what is changed for a drawing of the same joint, as of one that is its own mirror, the answers are the same."""
+    kept = [drawn.drawing_of(drawn.generate(seed, n, False).first) for n in range(count)]
+    for name, change in NOT_DRAWN:
+        seen = False
+        for drawing in kept:
+            other = drawing._replace(values=change(records.copy(drawing.values)))
+            one, two = drawn.write(drawing), drawn.write(other)
+            differ = told(one, engineer.PRINTED) != told(two, engineer.PRINTED)
+            seen = seen or differ
+            if differ and drawn.passes(two):
+                assert not any(is_drawn(engineer.read(one), engineer.read(two), kind, axis) for kind, axis in (
+                    ("parts", 0), ("listed", 0), ("moved", 0), ("mirrored", 0), ("mirrored", 1))), (name, one.hex())
+        assert seen, name
+    return len(NOT_DRAWN)
+
+
 def main():
     p = argparse.ArgumentParser(description=__doc__)
     p.add_argument("--count", type=int, default=1000)
@@ -747,6 +872,8 @@ def main():
     print("%d tables, %d of them right, as the literal text has them" % loading(a.seed, 5 * a.count))
     print("%d shared tables, %d of them right, as the literal text has them" % sharing(a.seed, 5 * a.count))
     print("brackets and roots of %d numbers as the literal text has them" % rooting(a.seed, 20 * a.count))
+    print("%d pairs of one joint drawn otherwise as the literal text has them" % redrawing(a.seed, 3 * a.count))
+    print("%d changes that draw another joint seen" % not_drawn(a.seed, a.count // 4))
     for items, handed, what in ((plain_items, plain_values, ""), (tabled_items, tabled_values, " with tables"),
                                 (shared_records, shared_values, " for firms")):
         print("%d spacings and %d joints%s as the literal text has them" % (*literal(a.seed, items(a.seed, a.count)), what))

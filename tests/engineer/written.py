@@ -9,6 +9,7 @@ same answer; check_alike says whether other tables do.
 import re
 
 import engineer
+from judge import Shared
 from records import in_version
 from tables import PRINTED
 from values import Handed
@@ -16,6 +17,13 @@ from values import Handed
 WRITE = ("code", "buffer", "answer")
 READ = ("code", "fields", "x", "y", "marks", "answer")
 ROOT = ("code", "answer")
+
+
+def loaded_of(table):
+    """What the engineer has of a table, the printed one where none is handed in."""
+    if isinstance(table, Shared):
+        return engineer.load_for(*table)
+    return engineer.PRINTED if table is None else engineer.load(table)
 
 
 def differ(names, want, got):

@@ -1,5 +1,5 @@
-"""Wrong programs, wrong writers and readers, and programs wrong with tables, with firms or with roots: model.py with one thing
-changed in each.  The harness must report all."""
+"""Wrong programs, wrong writers and readers, and programs wrong with tables, with firms, with one joint drawn otherwise or with
+roots: model.py with one thing changed in each.  The harness must report all."""
 from itertools import takewhile
 from math import atan2, cos, isqrt, log2, sin, sqrt      # floating point in wrong programs only
 
@@ -9,6 +9,7 @@ WRONG = []          # (group, name, class)
 WRONG_WRITERS = []  # the same, for the entries that write and read values
 WRONG_TABLES = []   # (entry that is wrong, name, class), for the entries that take a table
 WRONG_FIRMS = []    # the same, for those that take a shared one: wrong there alone
+WRONG_DRAWN = []    # (group, name, class), for two drawings of one joint
 WRONG_ROOTS = []    # (what is wrong, name, class), for the entries that find brackets and roots
 
 
@@ -21,6 +22,15 @@ def wrong(group, name):
 
 def changed(group, name, **methods):
     WRONG.append((group, name, type("Wrong", (Model,), methods)))
+
+
+FREE = ("use one higher", "capacity one lower", "share one lower")
+
+
+def beside(k, holds):
+    """The figure k of these three elsewhere within its bracket, where holds(self)."""
+    return {"print_answer": lambda self, *figures: Model.print_answer(self, *(
+        z + (1, -1, -1)[i] * (i == k and holds(self)) for i, z in enumerate(figures)))}
 
 
 # ------------------------------------------------------ mistakes that look reasonable
@@ -556,10 +566,9 @@ loaded_edges_apart("a member's loaded edges before its others", [
     (test, m) for m in (0, 1) for test in (PAIRS, ENDS, "loaded", EDGE)])
 
 # within the brackets: only the line in the other version tells
-for _k, _what in enumerate(("use one higher", "capacity one lower", "share one lower")):
+for _k, _what in enumerate(FREE):
     for _version in (1, 2):
-        changed(EDGES, "%s in version %d" % (_what, _version), print_answer=lambda self, *figures, k=_k, v=_version: (
-            Model.print_answer(self, *(z + (1, -1, -1)[i] * (i == k and self.version == v) for i, z in enumerate(figures)))))
+        changed(EDGES, "%s in version %d" % (_what, _version), **beside(_k, lambda self, v=_version: self.version == v))
 changed(EDGES, "no row share in version 2", **in_version_2("shares", lambda self: (10000, 10000)))
 changed(EDGES, "rows as 01 had them in version 2", **in_version_2("near", lambda self, c: c == 0))
 changed(EDGES, "softwood's k90 for hardwood in version 2", **in_version_2("k90", lambda self, m: 1350 + 15 * self.d))
@@ -2152,11 +2161,9 @@ mislooks("2 after 7", ("writing",), writer_tests=moved("table lists fields known
 mislooks("2 last", ("writing",), writer_tests=moved("table lists fields outlines force room known"))
 
 # within the brackets: only the printed table's answer without a table tells
-for _k, _what in enumerate(("use one higher", "capacity one lower", "share one lower")):
-    misgrades(_what + " with a table", print_answer=lambda self, *figures, k=_k: Model.print_answer(self, *(
-        z + (1, -1, -1)[i] * (i == k and self.table is not None) for i, z in enumerate(figures))))
-    misgrades(_what + " without a table", firms=False, print_answer=lambda self, *figures, k=_k: Model.print_answer(self, *(
-        z + (1, -1, -1)[i] * (i == k and self.table is None) for i, z in enumerate(figures))))
+for _k, _what in enumerate(FREE):
+    misgrades(_what + " with a table", **beside(_k, lambda self: self.table is not None))
+    misgrades(_what + " without a table", firms=False, **beside(_k, lambda self: self.table is None))
 
 # ----------------------------------------------------------------------------- firms
 
@@ -2415,11 +2422,217 @@ misfirms("a zero report for 16", ("judging",), print_refusal=lambda self, n, m, 
     "fits 0 0 0\n" if n == 16 else Model.print_refusal(self, n, m, i, j)))
 
 # within the brackets: only the answer by the same entries alone, or by another content of the other stretch, tells
-for _k, _what in enumerate(("use one higher", "capacity one lower", "share one lower")):
+for _k, _what in enumerate(FREE):
     for _when, _holds in (("for firm 1", lambda self: self.firm == 1), ("for firm 2", lambda self: self.firm == 2),
                           ("where the other's first code is odd", lambda self: Model.stretch_of(self, 3 - self.firm)[0] % 2 == 1)):
-        misfirms("%s %s" % (_what, _when), ("judging",), print_answer=lambda self, *figures, k=_k, holds=_holds: (
-            Model.print_answer(self, *(z + (1, -1, -1)[i] * (i == k and holds(self)) for i, z in enumerate(figures)))))
+        misfirms("%s %s" % (_what, _when), ("judging",), **beside(_k, _holds))
+
+# ----------------------------------------------------------- one joint drawn otherwise (02, A8)
+
+WITHIN = "within the brackets"      # only the other drawing's answer tells
+
+
+def misdraws(group, name, /, **methods):
+    WRONG_DRAWN.append((group, name, type("Wrong", (Model,), methods)))
+
+
+def frees(name, holds, free=(0, 1, 2)):
+    """For each of these figures a program that has it elsewhere within its bracket where holds(self)."""
+    for k in free:
+        misdraws(WITHIN, "%s %s" % (FREE[k], name), **beside(k, holds))
+
+
+def xs(self):
+    return [x for x, _ in self.xy]
+
+
+def centre(self):
+    return [sum(line) // self.n for line in zip(*self.xy)]
+
+
+def order_of_parts(self):
+    return [self.data[offset] for offset, _ in self.pairs]
+
+
+# the order of the dowels
+frees("where dowel 1 is right of the last", lambda self: self.xy[0][0] > self.xy[-1][0])
+frees("where dowel 1 is not in the lowest place along", lambda self: self.along(0, 0) != min(self.along(0, k) for k in range(self.n)))
+frees("where the dowels are not listed from left to right", lambda self: xs(self) != sorted(xs(self)))
+frees("where x of dowel 1 is odd", lambda self: self.xy[0][0] % 2 == 1)
+frees("where the last dowel is in dowel 1's row", lambda self: self.n > 1 and any(
+    {0, self.n - 1} <= set(row) for row in self.row_sets(0)))
+frees("of 64 dowels where dowel 1 is right of dowel 2", lambda self: self.n == 64 and self.xy[0][0] > self.xy[1][0], (1,))
+misdraws(WITHIN, "share rounded down to an even number where its row does not hold dowel 1", share=lambda self, shares: min(
+    share - share % 2 * all(0 not in row for row in self.row_sets(m)
+                            if len(row) > 1 and self.row_share(len(row), self.a1(self.gaps(m, row))) == share)
+    for m, share in enumerate(shares)))
+# where it is drawn
+frees("where x0 of member 1 is odd", lambda self: self.outline[0][0] % 2 == 1)
+frees("where a dowel is at a negative x", lambda self: min(xs(self)) < 0)
+frees("where the dowels' centre is above the axis of x", lambda self: centre(self)[1] > 0)
+frees("where a limit is beyond 80,000", lambda self: max(map(abs, self.outline[0] + self.outline[1])) > 80000)
+frees("where a limit is at 100,000", lambda self: 100000 in self.outline[0] + self.outline[1], (1,))
+frees("where a limit is at -100,000", lambda self: -100000 in self.outline[0] + self.outline[1], (1,))
+frees("where a lone dowel is not at 0", lambda self: self.n == 1 and self.xy[0] != (0, 0))
+frees("where the outlines do not hold the origin", lambda self: any(x0 > 0 or y0 > 0 or x1 < 0 or y1 < 0 for x0, y0, x1, y1 in self.outline))
+# on which side
+frees("where fx is negative", lambda self: self.force[0] < 0)
+frees("where fy is positive", lambda self: self.force[1] > 0)
+frees("where the force in member 2 runs to its low end", lambda self: self.axes(1, self.force)[0] < 0)
+frees("where member 1 goes on to the right", lambda self: sum(self.outline[0][::2]) > 2 * centre(self)[0])
+frees("where the rows climb", lambda self: sum((x - centre(self)[0]) * (y - centre(self)[1]) for x, y in self.xy) > 0)
+for _what, _holds in (("in version 1", lambda self: self.version == 1), ("in version 2", lambda self: self.version == 2),
+                      ("with a table", lambda self: self.table is not None), ("without a table", lambda self: self.table is None),
+                      ("for firm 1", lambda self: self.firm == 1), ("for firm 2", lambda self: self.firm == 2),
+                      ("with crossed grains", lambda self: self.grain[0] != self.grain[1]),
+                      ("with the grain along y", lambda self: self.grain == [1, 1]), ("with one shear plane", lambda self: self.p == 1),
+                      ("of hardwood", lambda self: self.is_hardwood(0)), ("of one dowel", lambda self: self.n == 1),
+                      ("of more than 32 dowels", lambda self: self.n > 32),
+                      ("that are overloaded", lambda self: Model.figures(self)[0] > 10000)):
+    frees("where fx is negative, in joints " + _what, lambda self, holds=_holds: self.force[0] < 0 and holds(self), (1,))
+# the parts, whose order changes no value
+frees("where the positions come before the members", lambda self: order_of_parts(self).index(3) < order_of_parts(self).index(1))
+
+
+def halved_down(value, high):
+    """Halved from 0 and high until the two are 2 apart: low, with low <= value < high."""
+    low = 0
+    while high - low > 2:
+        middle = (low + high) // 2
+        low, high = (middle, high) if middle <= value else (low, middle)
+    return low
+
+
+for _what, _high in (("that hangs on the place of dowel 1", lambda self: abs(self.xy[0][0])),
+                     ("that hangs on the order of the dowels", lambda self: sum(k * abs(x) for k, (x, _) in enumerate(self.xy))),
+                     ("that hangs on the outline", lambda self: self.outline[0][2] + 100000),
+                     ("that hangs on the side to which the force runs", lambda self: self.force[0] + 1000000)):
+    misdraws(WITHIN, "capacity halved from a bracket " + _what, capacity=lambda self, high=_high: (
+        halved_down(min(self.terms()), 10 ** 6 + high(self))))
+    misdraws(WITHIN, "share halved from a bracket " + _what, share=lambda self, shares, high=_high: (
+        halved_down(min(shares), 20000 + high(self))))
+misdraws(WITHIN, "use a five-hundredth higher where the force runs to the left", use=lambda self, cap, shares: (
+    Model.use(self, cap, shares) * (1002 if self.force[0] < 0 else 1000) // 1000))
+misdraws(WITHIN, "use raised by the force's moment about the origin, by 1 at the most", use=lambda self, cap, shares: (
+    Model.use(self, cap, shares) + (centre(self)[0] * self.force[1] != centre(self)[1] * self.force[0])))
+
+# what the engineer finds too
+PLACES, SIDES, LISTS = "absolute places", "sides", "order of the dowels"
+
+
+def taken(group, name, change):
+    """A program that changes what it has read: change(self)."""
+    def test_force(self):
+        Model.test_force(self)
+        change(self)
+    misdraws(group, name, test_force=test_force)
+
+
+def bounded(name, limits, tests=("test_ends", "test_edges")):
+    """Outlines taken otherwise by these tests: limits(x0, y0, x1, y1)."""
+    def of(test):
+        def tested(self, m):
+            kept = self.outline
+            self.outline = [limits(*outline) for outline in kept]
+            try:
+                getattr(Model, test)(self, m)
+            finally:
+                self.outline = kept
+        return tested
+    misdraws(PLACES, name, **{test: of(test) for test in tests})
+
+
+for _tests, _what in ((("test_ends",), "end"), (("test_edges",), "edge")):
+    bounded("a dowel's place taken for its distance to the low " + _what, lambda x0, y0, x1, y1: (0, 0, x1, y1), _tests)
+    bounded("a dowel's place taken for its distance to the high " + _what, lambda x0, y0, x1, y1: (x0, y0, 0, 0), _tests)
+bounded("a member's length taken for its high limit", lambda x0, y0, x1, y1: (x0, y0, x1 - x0, y1 - y0))
+bounded("outlines as far on both sides of the origin", lambda x0, y0, x1, y1: (
+    -max(-x0, x1), -max(-y0, y1), max(-x0, x1), max(-y0, y1)))
+bounded("limits in whole mm, rounded down", lambda *limits: [z // 10 * 10 for z in limits])
+taken(PLACES, "dowels in whole mm, rounded down", lambda self: setattr(self, "xy", [(x // 10 * 10, y // 10 * 10) for x, y in self.xy]))
+taken(PLACES, "dowels in whole mm, cut towards 0", lambda self: setattr(self, "xy", [
+    tuple(int(z / 10) * 10 for z in xy) for xy in self.xy]))
+taken(PLACES, "dowels in whole mm, to the nearest", lambda self: setattr(self, "xy", [
+    tuple((z + 5) // 10 * 10 for z in xy) for xy in self.xy]))
+taken(PLACES, "dowels measured from dowel 1", lambda self: setattr(self, "xy", [
+    (x - self.xy[0][0], y - self.xy[0][1]) for x, y in self.xy]))
+taken(PLACES, "dowels mirrored to positive places", lambda self: setattr(self, "xy", [(abs(x), abs(y)) for x, y in self.xy]))
+misdraws(PLACES, "places across squared in 32 bits", row_axes=lambda self, m, xy: (
+    lambda a, c: (a, c * c % 2 ** 32))(*self.axes(m, xy)), a1=at_least_one)
+misdraws(PLACES, "the force's moment about the origin in the use", use=lambda self, cap, shares: (
+    Model.use(self, cap, shares) + abs(centre(self)[0] * self.force[1] - centre(self)[1] * self.force[0]) // 10 ** 4))
+misdraws(LISTS, "the force's moment about dowel 1 in the use", use=lambda self, cap, shares: Model.use(self, cap, shares) + abs(
+    (centre(self)[0] - self.xy[0][0]) * self.force[1] - (centre(self)[1] - self.xy[0][1]) * self.force[0]) // 10 ** 4)
+
+misdraws(SIDES, "the low end always loaded", edge_sign=Model.sign, sign=lambda self, m: (
+    -1 if self.axes(m, self.force)[0] > 0 else 1))
+misdraws(SIDES, "the high end always loaded", edge_sign=Model.sign, sign=lambda self, m: (
+    1 if self.axes(m, self.force)[0] > 0 else -1))
+misdraws(SIDES, "the left end always loaded with the grain along x", edge_sign=Model.sign, sign=lambda self, m: (
+    -1 if self.grain[m] == 0 and self.force[0] > 0 else 1))
+taken(SIDES, "fx without its sign", lambda self: setattr(self, "force", (abs(self.force[0]), self.force[1])))
+taken(SIDES, "fy without its sign", lambda self: setattr(self, "force", (self.force[0], abs(self.force[1]))))
+taken(SIDES, "the force without its signs", lambda self: setattr(self, "force", tuple(map(abs, self.force))))
+for _m in (0, 1):
+    misdraws(SIDES, "member %d named by the sign of fx" % (_m + 1), print_refusal=lambda self, n, m, i, j, named=_m + 1: (
+        Model.print_refusal(self, n, named if m and self.force[0] < 0 else m, i, j)))
+misdraws(SIDES, "the edge tested first where fy is negative", test_ends=lambda self, m: (
+    self.force[1] < 0 and Model.test_edges(self, m), Model.test_ends(self, m)))
+misdraws(SIDES, "the high edge not tested where the force runs to the left", other_edge=lambda self, c, m: (
+    self.edge_3d(c) or self.force[0] < 0))
+
+misdraws(LISTS, "ends and edges of the first dowel only", in_order=lambda self: range(1))
+misdraws(LISTS, "ends and edges of the last dowel not tested", in_order=lambda self: range(max(1, self.n - 1)))
+misdraws(LISTS, "the row of the last dowel only", row_sets=lambda self, m: [
+    row for row in Model.row_sets(self, m) if self.n - 1 in row])
+misdraws(LISTS, "rows of the first 32 dowels", row_sets=lambda self, m: [
+    row for row in ([k for k in row if k < 32] for row in Model.row_sets(self, m)) if row])
+misdraws(LISTS, "the first dowel of each row not counted", row_sets=lambda self, m: [
+    [k for k in row if k != min(row)] for row in Model.row_sets(self, m)])
+misdraws(LISTS, "member named by the first dowel's number", print_refusal=lambda self, n, m, i, j: (
+    Model.print_refusal(self, n, m and 2 - i % 2, i, j)))
+misdraws(LISTS, "11 for 10 where the dowels are not neighbours in the list", print_refusal=lambda self, n, m, i, j: (
+    Model.print_refusal(self, 11 if n == 10 and j - i > 1 else n, m, i, j)))
+
+
+@wrong(LISTS, "the members dowel by dowel")
+class _(Model):
+    spacing_tests = ()
+
+    def figures(self):
+        for i in range(self.n):
+            for m in (0, 1):
+                self.in_order = lambda i=i: (i,)
+                for test in Model.spacing_tests[1:]:
+                    getattr(self, test)(m)
+        del self.in_order
+        for m in (0, 1):
+            self.test_pairs_of_dowels(m)
+        return Model.figures(self)
+
+
+PARTS = "order of the parts"
+misdraws(PARTS, "the last dowel named where the loads come first", in_order=lambda self: (
+    reversed(range(self.n)) if order_of_parts(self)[0] == 4 else range(self.n)))
+misdraws(PARTS, "dowels counted from the last where the positions come first", print_refusal=lambda self, n, m, i, j: (
+    Model.print_refusal(self, n, m, self.n + 1 - i, self.n + 1 - j if j else 0)
+    if n > 9 and order_of_parts(self)[0] == 3 else Model.print_refusal(self, n, m, i, j)))
+
+# of those above: what any engineer finds, and two drawings too
+WRONG_DRAWN += [(group, name, cls) for group, name, cls in WRONG if name in (
+    "pair with a signed cosine", "one end only, the high one", "one edge only, the low one", "no component: the high end loaded",
+    "only neighbours in the record tested as pairs", "the high edge always loaded", "the low edge always loaded",
+    "11 and 12 dowel by dowel", "32 bits unsigned", "sign and magnitude", "16 bits of 32", "kinds in fixed order only",
+    "kinds not tested, by place", "a1 the first distance", "a1 from dowels in record order", "first row only",
+    "cut greedily from the lowest", "cut greedily from the highest", "cut greedily in record order", "chained in record order",
+    "each dowel in one row, from the first listed", "each dowel in one row, upwards from the first listed",
+    "a dowel in several rows counted in the lowest", "upwards from each dowel, those listed after it only",
+    "near to the first listed dowel of each row", "bands d wide from 0",
+    "bands d wide, rounded to nearest", "bands d wide, cut towards 0", "bands d wide from the lowest dowel",
+    "bands d wide from the outline", "the lowest row only", "the highest row left out", "every second row",
+    "the row of the first dowel only", "the lowest dowel of a row left out", "a1: from the lowest dowel only",
+    "a1: from the first listed dowel only", "row check with the signed component", "row check with the signed component, member 2",
+    "the members dowel by dowel")]
 
 # ----------------------------------------------------------------------------- roots
 

@@ -173,6 +173,7 @@ static void check_all(const struct file file[FILES])
     check_judge(file);
     check_rows();
     check_version(b->bytes, b->length);
+    check_drawn(b->bytes, b->length);
     check_write(b->bytes, b->length);
     check_read(b->bytes, b->length, c->bytes, c->length);
 }

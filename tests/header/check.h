@@ -59,6 +59,7 @@ void short_read(const uint8_t *record, size_t n);
 void wrote(const char *what, const struct values *v, size_t room, uint64_t number, const uint8_t *bytes);
 void short_write(const struct values *v);
 
+void check_drawn(const uint8_t *b, size_t length);
 void check_firms(const uint8_t *b, size_t length);
 void check_root(void);
 void check_table(const uint8_t *b, size_t length);

@@ -11,7 +11,8 @@ use lib.IntN.{ℤ}
 use borrow.Author.Tests.{eq-eqb, ne_eqb}
 use Rattle.spacing.specs.Spacing.{place}
 use Rattle.group.specs.Rows.{count_to}
-use Rattle.group.specs.Listing.{Listed, Relisting, Relisted}
+use Rattle.group.specs.Order.{Relisting}
+use Rattle.group.specs.Listing.{Listed, Relisted}
 use Rattle.group.specs.Share.{within_reach, in_window, closest_to, window_number, window_closest, farthest}
 use Rattle.group.proofs.Counting.{closest_bound, closest_least, closest_from}
 

@@ -7,7 +7,8 @@ use native.Mathlib.Nat.{le_refl}
 use lib.IntN.{ℤ}
 use Rattle.spacing.specs.Spacing.{place}
 use Rattle.group.specs.declared.rows.Row.{Row}
-use Rattle.group.specs.Listing.{Listed, Relisting, Relisted, InOrder}
+use Rattle.group.specs.Order.{Relisting}
+use Rattle.group.specs.Listing.{Listed, Relisted, InOrder}
 use Rattle.group.specs.Share.{in_window, window_number, window_closest, row_passes, all_to, greatest_to, member_share, window_seen, WorstOf}
 use Rattle.group.proofs.Relist.{window_number_lem, window_closest_lem}
 use Rattle.group.proofs.SeenLaws.{seen_count, seen_least}

@@ -1,4 +1,5 @@
 pub mod Rows
 pub mod Says
+pub mod Order
 pub mod Listing
 pub mod Share

@@ -2,3 +2,11 @@ pub mod Verdicts
 pub mod Bytes
 pub mod Versions
 pub mod Edges
+pub mod Rows
+pub mod Plans
+pub mod Axes
+pub mod Views
+pub mod Reports
+pub mod Drawn
+pub mod JointB
+pub mod Entries

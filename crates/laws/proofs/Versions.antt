@@ -1,7 +1,8 @@
 -- What version 2 asks more is edges alone.
 use Prim.Native.Nat.{ℕ}
 use mathlib.Core.Path.{◌≡◌, refl, sym, ap, ap₂, ◌∙◌, subst}
-use mathlib.Core.Bool.{Bool, true, false}
+use mathlib.Core.Bool.{Bool, true, false, cond}
+use lib.Dec.{eqb}
 use mathlib.Core.List.{List, [], ◌∷◌}
 use mathlib.Core.Logic.{inl, inr}
 use native.Mathlib.Decide.{ℕ_discrete}
@@ -13,15 +14,17 @@ use Rattle.tables.specs.Tests.{first_holding}
 use Rattle.tables.specs.Table.{Table, Loaded, Right, table_of}
 use Rattle.tables.proofs.Loading.{right}
 use Rattle.spacing.specs.Verdict.{Fault}
+use Rattle.joint.specs.Answer.{Report}
 use Rattle.joint.specs.Layout.{values_of}
 use Rattle.joint.specs.Refusal.{refusal1, refusal2, refusal4, record_tests, refusal_number, drill_fault, refusal_of}
 use Rattle.joint.specs.Returned.{answered, unanswered, report_of}
 use Rattle.joint.specs.Claim.{Accepted}
 use Rattle.joint.proofs.Holding.{no_number}
 use Rattle.joint.proofs.Faults.{table_first, unrefused, number_of_record}
-use Rattle.joint.proofs.Claims.{report_accepted, report_refused, claim}
+use Rattle.joint.proofs.Claims.{report_refused, claim}
 use Rattle.laws.specs.Versions.{SameOr12, EdgesAlone, AcceptedAlike}
 use Rattle.laws.proofs.Verdicts.{Alone, spacing_alone}
+use Rattle.laws.proofs.Reports.{by_values, report_is}
 use Rattle.laws.proofs.Bytes.{same1, same3, same4, offsets, same5, same6, same_part, same_values}
 
 module _ (t : Table) (k : Right t) where
@@ -90,10 +93,6 @@ module _ (t : Table) (k : Right t) where
       unfolding all_numbered.numbered
       chain_right = (no_number (record_tests t one) refl (unrefused t k one z).1).none 3
 
-      by_plan : (s : List ℕ) → refusal_number t s ≡ 0 → refusal_of t s ≡ drill_fault (values_of s)
-      unfolding refusal_of
-      by_plan s e = simp e
-
       plans : Alone (drill_fault (values_of one)) (drill_fault (values_of two))
       unfolding drill_fault values_of
       plans =
@@ -104,21 +103,29 @@ module _ (t : Table) (k : Right t) where
       unfolding answered values_of
       same_answer = let o = offsets 1 0 2 0 r chain_right in simp (same_part 1 0 2 0 r o)
 
+      -- what the two reports are
+      reports : (report_of t one ≡ by_values t (values_of one)) × (report_of t two ≡ by_values t (values_of two))
+      reports =
+          let u = unrefused t k one z in
+          let w = unrefused t k two (number_same ∙ z) in
+          (report_is t k u.0 one u.1, report_is t k w.0 two w.1)
+
       either : SameOr12 t one two
+      unfolding unanswered
       either = of plans
         where
           of : Alone (drill_fault (values_of one)) (drill_fault (values_of two)) → SameOr12 t one two
           of (inl e) =
-              let f = by_plan two (number_same ∙ z) ∙ e ∙ sym (by_plan one z) in
-              inl (go f (ℕ_discrete (refusal_of t one).number 0))
-            where
-              go : refusal_of t two ≡ refusal_of t one → Dec (Accepted t one) → report_of t two ≡ report_of t one
-              go f (yes a) =
-                  sym (report_accepted t two (ap (λ (w : Fault). w.number) f ∙ a)) ∙ same_answer ∙ report_accepted t one a
-              go f (no n) = refused one two f n
+              inl
+              (reports.1
+              ∙ ap₂ (λ (f : Fault) (r : Report). cond (eqb f.number 0) r (unanswered f)) e same_answer
+              ∙ sym reports.0)
           of (inr e) =
-              let f : (refusal_of t two).number ≡ 12 = ap (λ (w : Fault). w.number) (by_plan two (number_same ∙ z)) ∙ e in
-              inr ((claim t k two).number ∙ f)
+              let f = drill_fault (values_of two) in
+              inr
+              (ap (λ (r : Report). r.number) reports.1
+              ∙ ap (λ (b : Bool). (cond b (answered t (values_of two)) (unanswered f)).number) (ap (λ (i : ℕ). eqb i 0) e)
+              ∙ e)
 
     alone : SameOr12 t one two
     alone = go (ℕ_discrete (refusal_number t one) 0)
