@@ -1,4 +1,4 @@
--- An axis of a member moved, or turned round, with its limits and the force: the same distances, and the same asked of its two sides.
+-- An axis of a member kept, moved, or negated with its limits and the force: the same distances, and the same asked of its two sides.
 use Prim.Native.Nat.{ℕ, ◌<◌}
 use native.Mathlib.Omega.{arith}
 use borrow.Author.Differences.{ints}
@@ -56,7 +56,7 @@ same_size kept f = refl
 same_size (shifted k) f = refl
 same_size negated f = nat_abs_neg f
 
--- an axis at numbers, in another drawing
+-- what is asked at a place p is asked of it in another drawing
 sides_at :
     (side : Bool → ℤ → Bool) (o : OnAxis) (low high f p : ℤ) →
     side (le_z (pos 1) (neg_ℤ (force_after o f))) (place_after o p -ℤ low_after o low high)

@@ -28,34 +28,28 @@ put_alike false entry f g e = record { long = refl; at = at }
     at (suc (suc (suc (suc (suc (suc (suc zero))))))) _ _ = e.share
     at (suc (suc (suc (suc (suc (suc (suc (suc i)))))))) _ _ = refl
 
-module _ (t : Table) (k : Right t) (s u : List ℕ) where
-  pub judged_alike : JudgedAlike t s u
-  judged_alike p d entry a b r q e f = (
+-- what they answer to a joint drawn otherwise, and to records of equal values
+abbrev pub Judged : Table → List ℕ → List ℕ → Type 0
+Judged t s u = JudgedAlike t s u × JudgedEqual t s u
+
+pub judged : (t : Table) → Right t → (s u : List ℕ) → Judged t s u
+judged t k s u = (
+  λ p d entry a b r q e f. (
     f.code ∙ sym e.code,
     rw (e.out, f.out) (put_alike (judge_short entry) entry _ _ (reports_alike t k s u p d)),
-  )
-
-  pub judged_equal : JudgedEqual t s u
-  judged_equal p p' v entry a b r q e f = (
+  ),
+  λ p p' v entry a b r q e f. (
     f.code ∙ sym e.code,
     f.out ∙ ap (λ (z : Report). put (judge_short entry) (filled z) entry) (reports_equal t k s u p p' v) ∙ sym e.out,
-  )
+  ),
+)
 
 -- by the printed table, by every sequence of bytes as a firm's own, and by every number as the firm's with every sequence of bytes as the shared one
-pub judged_alike_printed : (s u : List ℕ) → JudgedAlike printed s u
-judged_alike_printed = judged_alike printed printed_right
+pub judged_printed : (s u : List ℕ) → Judged printed s u
+judged_printed = judged printed printed_right
 
-pub judged_alike_with : (b s u : List ℕ) → JudgedAlike (own_table b) s u
-judged_alike_with b = judged_alike (own_table b) (own_right b)
+pub judged_with : (b s u : List ℕ) → Judged (own_table b) s u
+judged_with b = judged (own_table b) (own_right b)
 
-pub judged_alike_for : (firm : ℕ) (b s u : List ℕ) → JudgedAlike (shared_table firm b) s u
-judged_alike_for firm b = judged_alike (shared_table firm b) (shared_right firm b)
-
-pub judged_equal_printed : (s u : List ℕ) → JudgedEqual printed s u
-judged_equal_printed = judged_equal printed printed_right
-
-pub judged_equal_with : (b s u : List ℕ) → JudgedEqual (own_table b) s u
-judged_equal_with b = judged_equal (own_table b) (own_right b)
-
-pub judged_equal_for : (firm : ℕ) (b s u : List ℕ) → JudgedEqual (shared_table firm b) s u
-judged_equal_for firm b = judged_equal (shared_table firm b) (shared_right firm b)
+pub judged_for : (firm : ℕ) (b s u : List ℕ) → Judged (shared_table firm b) s u
+judged_for firm b = judged (shared_table firm b) (shared_right firm b)
