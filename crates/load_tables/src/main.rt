@@ -17,11 +17,14 @@ fn number(table: Source) -> u8 {
 
 fn main(rt: HostRuntime) -> io::Result<()> {
     intake::each_file(&rt, |path, mut file| {
-        let bytes = intake::read_up_to(rt.alloc(), &mut file, LONGEST)?;
-        let own = number(Source::own(&bytes));
+        // On the stack, and not a Vec: loading a table asks for no memory.
+        let mut room = [0u8; LONGEST];
+        let n = intake::read_full(&mut file, &mut room);
+        let bytes = &room[..n];
+        let own = number(Source::own(bytes));
         print!(rt; "{path}: {own}, for firms")?;
         for firm in &FIRMS {
-            let shared = number(Source::for_firm(*firm, &bytes));
+            let shared = number(Source::for_firm(*firm, bytes));
             print!(rt; " {shared}")?;
         }
         println!(rt; "")

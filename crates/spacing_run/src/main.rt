@@ -24,8 +24,8 @@ const DIGITS: usize = 7;
 // The last number that a joint may start at.
 const LAST_START: usize = 14400;
 
-// The numbers of a joint with 64 dowels.
-const MOST_FIELDS: usize = 142;
+// How many numbers a joint has before its dowels.
+const BEFORE_DOWELS: usize = 14;
 
 // Tenths of a millimetre in one.
 const TENTHS: u64 = 10;
@@ -47,6 +47,13 @@ fn number_of(field: &[u8]) -> i32 {
     } else {
         size
     }
+}
+
+// Number k of a joint that stands at the text's start; 0 past the end.
+fn number(text: &[u8], k: usize) -> i32
+    requires { k ≤ 142 }
+{
+    text.get(FIELD * k..).map_or(0, number_of)
 }
 
 fn piece(grain: i32, x0: i32, y0: i32, x1: i32, y1: i32) -> Piece {
@@ -112,42 +119,46 @@ fn judge(rt: &HostRuntime, member1: Piece, member2: Piece, plan: Plan) -> io::Re
     )
 }
 
-// Each joint in turn, until one has no dowel. The numbers end in as many 0 as a joint has, so that the last one is whole. `while let` takes
-// a joint off the front and counts nothing.
-fn joints(rt: &HostRuntime, fields: &[i32]) -> io::Result<()> {
-    let mut rest = fields;
-    while let [
-        d,
-        fx,
-        fy,
-        grain1,
-        x1,
-        y1,
-        x2,
-        y2,
-        grain2,
-        x3,
-        y3,
-        x4,
-        y4,
-        count,
-        places @ ..,
-    ] = rest
-    {
+// Each joint in turn, until the text ends or one has no dowel. Its numbers are taken from the text as they are asked for: no list of all of them is made.
+fn joints(rt: &HostRuntime, text: &[u8]) -> io::Result<()> {
+    let mut rest = text;
+    while let [_, ..] = rest {
+        let [
+            d,
+            fx,
+            fy,
+            grain1,
+            x1,
+            y1,
+            x2,
+            y2,
+            grain2,
+            x3,
+            y3,
+            x4,
+            y4,
+            count,
+        ]: [i32; BEFORE_DOWELS] = array::from_fn(|k| number(rest, k));
         let size = 2 * count.unsigned_abs() as usize;
-        if size == 0 || 128 < size || places.len() < size {
+        if size == 0 || 128 < size {
             return Ok(());
         }
-        if LAST_START < fields.len().saturating_sub(rest.len()) {
+        if FIELD * LAST_START < text.len().saturating_sub(rest.len()) {
             return Ok(());
         }
-        let (dowels, next) = places.split_at(size);
-        if let Some(plan) = plan_of(d.unsigned_abs() as u64, *fx, *fy, dowels) {
-            let member1 = piece(*grain1, *x1, *y1, *x2, *y2);
-            let member2 = piece(*grain2, *x3, *y3, *x4, *y4);
+        let places: [i32; 128] = array::from_fn(|k| {
+            if k < size {
+                number(rest, BEFORE_DOWELS + k)
+            } else {
+                0
+            }
+        });
+        if let Some(plan) = plan_of(d.unsigned_abs() as u64, fx, fy, &places[..size]) {
+            let member1 = piece(grain1, x1, y1, x2, y2);
+            let member2 = piece(grain2, x3, y3, x4, y4);
             judge(rt, member1, member2, plan)?;
         }
-        rest = next;
+        rest = rest.get(FIELD * (BEFORE_DOWELS + size)..).unwrap_or(&[]);
     }
     Ok(())
 }
@@ -185,12 +196,9 @@ fn table_13_2(rt: &HostRuntime) -> io::Result<()> {
 }
 
 fn main(rt: HostRuntime) -> io::Result<()> {
-    let text = intake::read_up_to(rt.alloc(), &mut rt.stdin(), MOST_BYTES)?;
-    let mut fields = text
-        .chunks(FIELD)
-        .map(number_of)
-        .collect::<Vec<i32>>(rt.alloc())?;
-    fields.resize(fields.len() + MOST_FIELDS, 0)?;
-    joints(&rt, &fields)?;
+    // The text stands in an array: no memory is asked for.
+    let mut room = [0u8; MOST_BYTES];
+    let n = intake::read_full(&mut rt.stdin(), &mut room);
+    joints(&rt, &room[..n])?;
     table_13_2(&rt)
 }

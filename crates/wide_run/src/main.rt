@@ -3,15 +3,15 @@
 // `times_u64`, into as many limbs as the code says, runs in `strength_run`.
 #![tactic(auto)]
 
-ghost use Rattle.std.specs.Prelude.{◌≡◌, ◌+◌, ◌<◌, ◌≤◌, length, IfOk};
+ghost use Rattle.std.specs.Prelude.{◌≡◌, ◌+◌, ◌<◌, ◌≤◌, length, replicate, IfOk};
 ghost use Rattle.wide.specs.Natural.{value};
 
 mod cases;
 mod guards;
 
-use std::alloc::AllocError;
+use arrayvec::ArrayVec;
 use std::io;
-use std::io::Read;
+use std::io::{ErrorKind, Read};
 
 // More cases than any input has: nothing says that an input ends.
 const MOST_CASES: usize = 100000;
@@ -54,11 +54,41 @@ fn run_case(rt: &HostRuntime, block: &[u8; 138]) -> io::Result<()> {
     write_short_product(rt, cases::u64_at(block, 2), m)
 }
 
+// The most limbs that a line needs: those of a and b together. They stand in arrays, so that no memory is asked for.
+const MOST_LIMBS: usize = 32;
+
+type Limbs = ArrayVec<u32, MOST_LIMBS>;
+
+fn too_many() -> io::Error {
+    io::Error::from(ErrorKind::InvalidInput)
+}
+
+// So many limbs, all alike.
+fn alike(limb: u32, count: usize) -> io::Result<Limbs>
+    ensures { IfOk result (λ v. v.items ≡ replicate count limb) }
+{
+    if MOST_LIMBS < count {
+        return Err(too_many());
+    }
+    let mut limbs = Limbs::from([limb; MOST_LIMBS]);
+    limbs.truncate(count);
+    Ok(limbs)
+}
+
 // So many limbs that are 0.
-fn zeros(rt: &HostRuntime, count: usize) -> Result<Vec<u32>, AllocError>
+fn zeros(count: usize) -> io::Result<Limbs>
     ensures { IfOk result (λ v. (value v.items ≡ 0) × (length v.items ≡ count)) }
 {
-    Ok(vec![in rt.alloc(); 0u32; count]?)
+    alike(0, count)
+}
+
+// The limbs of a number, to be changed in place.
+fn copy_of(a: &[u32]) -> io::Result<Limbs>
+    ensures { IfOk result (λ v. v.items ≡ a.now) }
+{
+    let mut limbs = Limbs::new();
+    limbs.try_extend_from_slice(a).map_err(|_| too_many())?;
+    Ok(limbs)
 }
 
 // All limbs, the highest first.
@@ -94,7 +124,7 @@ fn write_at_most(rt: &HostRuntime, a: &[u32], b: &[u32]) -> io::Result<()> {
 
 // a + b, in one limb more than the longer of both has.
 fn write_sum(rt: &HostRuntime, a: &[u32], b: &[u32]) -> io::Result<()> {
-    let mut room = zeros(rt, a.len().max(b.len()) + 1)?;
+    let mut room = zeros(a.len().max(b.len()) + 1)?;
     let s = room.as_mut_slice();
     wide::add_to(s, a);
     wide::add_to(s, b);
@@ -103,14 +133,14 @@ fn write_sum(rt: &HostRuntime, a: &[u32], b: &[u32]) -> io::Result<()> {
 
 // a b, in as many limbs as a and b have together.
 fn write_product(rt: &HostRuntime, a: &[u32], b: &[u32]) -> io::Result<()> {
-    let mut p = zeros(rt, a.len() + b.len())?;
+    let mut p = zeros(a.len() + b.len())?;
     wide::multiply_add(&mut p, a, b);
     write_line(rt, "product ", &p)
 }
 
 // a b + b + a, likewise: one less than (a + 1) (b + 1).
 fn write_product_and_sum(rt: &HostRuntime, a: &[u32], b: &[u32]) -> io::Result<()> {
-    let mut room = zeros(rt, a.len() + b.len())?;
+    let mut room = zeros(a.len() + b.len())?;
     let p = room.as_mut_slice();
     wide::multiply_add(p, a, b);
     wide::add_to(p, b);
@@ -120,7 +150,7 @@ fn write_product_and_sum(rt: &HostRuntime, a: &[u32], b: &[u32]) -> io::Result<(
 
 // a m, in two limbs more than a has.
 fn write_product_u64(rt: &HostRuntime, a: &[u32], m: u64) -> io::Result<()> {
-    let mut p = zeros(rt, a.len() + 2)?;
+    let mut p = zeros(a.len() + 2)?;
     wide::multiply_add_u64(&mut p, a, m);
     write_line(rt, "times ", &p)
 }
@@ -132,9 +162,9 @@ fn write_short_product(rt: &HostRuntime, a: u64, m: u64) -> io::Result<()> {
 
 // a + b in as many limbs as a has, where they hold it.
 fn write_sum_in_place(rt: &HostRuntime, a: &[u32], b: &[u32]) -> io::Result<()> {
-    let mut room = vec![in rt.alloc(); u32::MAX; a.len()]?;
+    let mut room = alike(u32::MAX, a.len())?;
     if guards::has_room(a, b, &mut room) {
-        let mut sum = a.to_vec(rt.alloc())?;
+        let mut sum = copy_of(a)?;
         wide::add_to(&mut sum, b);
         write_line(rt, "in place ", &sum)
     } else {
@@ -145,7 +175,7 @@ fn write_sum_in_place(rt: &HostRuntime, a: &[u32], b: &[u32]) -> io::Result<()> 
 // a - b, where b is at most a.
 fn write_difference(rt: &HostRuntime, a: &[u32], b: &[u32]) -> io::Result<()> {
     if wide::at_most(b, a) {
-        let mut rest = a.to_vec(rt.alloc())?;
+        let mut rest = copy_of(a)?;
         wide::subtract_from(&mut rest, b);
         write_line(rt, "difference ", &rest)
     } else {
@@ -158,7 +188,7 @@ fn write_quotient(rt: &HostRuntime, a: &[u32], b: &[u32]) -> io::Result<()>
     requires { length b.now ≤ 16 }
 {
     if guards::has_short_quotient(a, b) {
-        let mut rest = a.to_vec(rt.alloc())?;
+        let mut rest = copy_of(a)?;
         let quotient = wide::quotient(&mut rest, b);
         print!(rt; "quotient {quotient:016x}")?;
         write_line(rt, " rest ", &rest)

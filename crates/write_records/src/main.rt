@@ -5,8 +5,7 @@
 
 ghost use Rattle.std.specs.Prelude.{◌≤◌};
 
-use std::alloc::AllocError;
-use std::io;
+use std::{array, io};
 
 // Longer than any file that it is run on.
 const LONGEST: usize = 4096;
@@ -48,14 +47,17 @@ impl Lists<'_> {
     // Writes into a buffer of `room` bytes that holds 170 everywhere; the answer has two numbers more than it needs. Prints what came back,
     // the answer, and the buffer.
     fn write(self, rt: &HostRuntime, room: usize) -> io::Result<()> {
-        let mut buffer = vec![in rt.alloc(); 170u8; room]?;
+        let mut all = [170u8; MOST_BYTES];
+        let Some(buffer) = all.get_mut(..room) else {
+            return Ok(());
+        };
         let mut answer = [7u64; 4];
         let code = negwishal::negwishal_write(
             self.fields,
             self.x,
             self.y,
             self.marks,
-            &mut buffer,
+            buffer,
             &mut answer,
         );
         print!(rt; " {code}")?;
@@ -63,7 +65,7 @@ impl Lists<'_> {
             print!(rt; " {number}")?;
         }
         print!(rt; " :")?;
-        for byte in &buffer {
+        for byte in &*buffer {
             print!(rt; " {byte}")?;
         }
         Ok(())
@@ -99,24 +101,23 @@ impl<'a> Case<'a> {
             .map_or(most, |n| most.min(n.cast_unsigned() as usize))
     }
 
-    // The numbers from k on, 0 past the end: as many as number `count_at` names.
-    fn list(self, rt: &HostRuntime, k: usize, count_at: usize) -> Result<Vec<i32>, AllocError> {
+    // The numbers from k on, 0 past the end. An array, so that no memory is asked for.
+    fn list(self, k: usize) -> [i32; MOST] {
         let rest = self.rest(k);
-        (0..self.length(count_at, MOST))
-            .map(|i| rest.number(i).unwrap_or(0))
-            .collect::<Vec<i32>>(rt.alloc())
+        array::from_fn(|i| rest.number(i).unwrap_or(0))
     }
 
+    // Of each list as many numbers as the case names.
     fn run(self, rt: &HostRuntime) -> io::Result<()> {
-        let fields = self.list(rt, FIELDS, FIELDS_LENGTH)?;
-        let x = self.list(rt, X, X_LENGTH)?;
-        let y = self.list(rt, Y, Y_LENGTH)?;
-        let marks = self.list(rt, MARKS, MARKS_LENGTH)?;
+        let fields = self.list(FIELDS);
+        let x = self.list(X);
+        let y = self.list(Y);
+        let marks = self.list(MARKS);
         let lists = Lists {
-            fields: &fields,
-            x: &x,
-            y: &y,
-            marks: &marks,
+            fields: &fields[..self.length(FIELDS_LENGTH, MOST)],
+            x: &x[..self.length(X_LENGTH, MOST)],
+            y: &y[..self.length(Y_LENGTH, MOST)],
+            marks: &marks[..self.length(MARKS_LENGTH, MOST)],
         };
         lists.write(rt, self.length(ROOM, MOST_BYTES))
     }
@@ -158,12 +159,14 @@ fn run_record(rt: &HostRuntime, bytes: &[u8]) -> io::Result<()> {
 
 fn main(rt: HostRuntime) -> io::Result<()> {
     intake::each_file(&rt, |path, mut file| {
-        let bytes = intake::read_up_to(rt.alloc(), &mut file, LONGEST)?;
+        let mut room = [0u8; LONGEST];
+        let n = intake::read_full(&mut file, &mut room);
+        let bytes = &room[..n];
         print!(rt; "{path}:")?;
         if bytes.starts_with(b"case") {
-            Case::of(&bytes).run(&rt)?;
+            Case::of(bytes).run(&rt)?;
         } else {
-            run_record(&rt, &bytes)?;
+            run_record(&rt, bytes)?;
         }
         println!(rt; "")
     })
