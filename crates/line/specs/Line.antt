@@ -1,5 +1,5 @@
 -- Document 01, 'Printing': the line that the program writes, as bytes.
-use Rattle.std.specs.Prelude.{ℕ, zero, suc, ◌+◌, ◌/◌, ◌%◌, cond, List, [], ◌∷◌, ◌++◌, ltb}
+use Rattle.std.specs.Prelude.{ℕ, zero, suc, ◌+◌, ◌/◌, ◌%◌, ◌≤◌, ◌≡◌, cond, List, [], ◌∷◌, ◌++◌, length, take, ltb}
 use Rattle.joint.specs.Answer.{Verdict}
 use Rattle.joint.specs.Answer.Verdict.{Fits, Overloaded, Refused}
 use Rattle.joint.specs.Answer.{Report}
@@ -46,3 +46,9 @@ line_for Refused r = place_after (word_of Refused) r
 
 unfoldable pub line_of : Report → List ℕ
 line_of r = line_for r.verdict r
+
+-- a text put into a line from `at` on ends at `end`, at most `most` bytes on, and what stands before it stays
+pub record Added (before after : List ℕ) (at end most : ℕ) (text : List ℕ) : Type 0 where
+  pub size : length after ≡ length before
+  pub near : end ≤ at + most
+  pub stands : take end after ≡ take at before ++ text

@@ -7,7 +7,7 @@ ghost use Rattle.arrayvec.specs.ArrayString.{array_string_len};
 ghost use Rattle.joint.specs.Told.{told};
 ghost use Rattle.joint.specs.Returned.{unanswered};
 ghost use Rattle.joint.specs.declared.report.Judgement.TheVariants.{Fits};
-ghost use Rattle.line.specs.Line.{field_of, figures_after, line_of};
+ghost use Rattle.line.specs.Line.{field_of, figures_after, line_of, Added};
 
 use arrayvec::ArrayString;
 use itoa::Buffer;
@@ -15,6 +15,16 @@ use joint::report::{Figures, Judgement};
 
 // The bytes of the longest line: `refused`, four numbers of up to 20 digits with a space before each, and the newline.
 pub const LONGEST: usize = 92;
+
+// Puts src into a line from `at` on, and answers where it ends. What stands before `at` stays. For a line that stands in a slice of its caller's.
+pub fn put(src: &[u8], line: &mut [u8], at: usize) -> usize
+    requires { at + length src.now ≤ length line.old }
+    ensures { Added line.old line.new at result (length src.now) src.now }
+{
+    let end = at + src.len();
+    line[at..end].copy_from_slice(src);
+    end
+}
 
 // A space and n after what stands in the line. By `push_str`: std says of `write!` what a `String` takes, and nothing of other writers.
 fn push_field(line: &mut ArrayString<LONGEST>, n: u64)
