@@ -8,6 +8,9 @@ use crate::order::Hole;
 // In tenths: at this distance a row passes every share, so a greater one need not be told apart from it.
 pub const FARTHEST: u64 = 200000;
 
+// More than any two places lie apart.
+const BEYOND: u64 = 4294967296;
+
 // A row, or a part of one: its number of dowels, and the least distance along between two of them, FARTHEST at most.
 #[derive(Clone, Copy)]
 pub struct Row {
@@ -15,11 +18,13 @@ pub struct Row {
     pub least: u64,
 }
 
-// Whether a place is not below another and within reach of it.
+// Whether a place is not below another and within reach of it. Where it is below, the distance upwards wraps and lies beyond every reach, so that one
+// comparison does: of two, that of what is below would fall by chance in an order by chance, and no processor foresees it.
 fn within_reach(from: i32, to: i32, reach: u64) -> bool
     ensures { result ≡ within_reach from to reach }
 {
-    from <= to && (to.abs_diff(from) as u64) < reach
+    let upwards = (to as i64).wrapping_sub(from as i64).cast_unsigned();
+    upwards < reach.min(BEYOND)
 }
 
 // A row with one dowel more, and where the last dowel of it lies.
