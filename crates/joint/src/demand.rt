@@ -59,7 +59,8 @@ impl Demand {
         ensures { result ≡ row_use_of (demand_told self) m }
     {
         let force = BY_ROW * m.along;
-        force.div_ceil(self.planes2 * (self.kmod / KMOD_STEP) * m.share * self.capacity)
+        let carried = self.planes2 * (self.kmod / KMOD_STEP) * m.share * self.capacity;
+        force.div_ceil(carried)
     }
 
     // The greatest of the three.

@@ -110,11 +110,15 @@ pub fn write_with(
 {
     table.load()?;
     let version = check::known_version(f).ok_or(Refusal::OtherVersion)?;
-    if y.len() != x.len() || MOST_DOWELS < x.len() {
+    // Each test has a name of its own, as what the values' tests answer has: wrong programs in must-fail/ change a test and keep its name.
+    let differ = y.len() != x.len();
+    let too_many = MOST_DOWELS < x.len();
+    if differ || too_many {
         return Err(Refusal::FieldOutside.into());
     }
     let values = check::values_from(version, f, x, y).ok_or(Refusal::FieldOutside)?;
-    check_values(table, &values)?;
+    let checked = check_values(table, &values);
+    checked?;
     let length = RECORD_BYTES + POSITION_BYTES * x.len();
     if buffer.len() < length {
         return Err(Unwritten::BufferTooShort);
